@@ -92,7 +92,7 @@ pub minkowski : (a b c x y z : ℤ) (A B : ℕ) → squaresOf a b c ≤ A * A �
     → squaresOf (a +ℤ x) (b +ℤ y) (c +ℤ z) ≤ (A + B) * (A + B)
 minkowski a b c x y z A B h k =
     let e = rw (squaresOf-pos (a +ℤ x) (b +ℤ y) (c +ℤ z), squaresOf-pos a b c, squaresOf-pos x y z)
-        at (expand a b c x y z) in
+    at (expand a b c x y z) in
     last (ap natAbs e) (abs-add (pos (squaresOf a b c + squaresOf x y z)) (pos 2 *ℤ dot a b c x y z))
     (abs-mul (pos 2) (dot a b c x y z)) (dot-le a b c x y z A B h k)
   where

@@ -3,3 +3,4 @@
 pub mod Rounding
 pub mod Product
 pub mod Root
+pub mod Modulo

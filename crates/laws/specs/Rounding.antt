@@ -60,10 +60,10 @@ rndSize-by-quotient q r d h = rndSize-is (q * d + r) d (q + 2 * r / d)
 pub rndSize-le : (n d : ℕ) → 0 < d → rndSize n d ≤ n
 unfolding rndSize
 rndSize-le n d h = omega (
-      arith,
-      div-lt-iff-lt-mul {k = 2 * d} {x = 2 * n + d} {y = n + 1} (omega arith) .1
-          (omega (arith, le-mul-of-pos-right n h)),
-    )
+  arith,
+  div-lt-iff-lt-mul {k = 2 * d} {x = 2 * n + d} {y = n + 1} (omega arith) .1
+      (omega (arith, le-mul-of-pos-right n h)),
+)
 
 pub rndSize-under : (n d m : ℕ) → 0 < d → n ≤ d * m → rndSize n d ≤ m
 unfolding rndSize
@@ -148,7 +148,7 @@ nearest-one x d r h p = by-sign (λ x. (r : ℤ) → Nearest x d r → rnd x d �
     turned : (y r : ℤ) → Nearest (negℤ y) d r → Nearest y d (negℤ r)
     turned y r p =
         let e : y -ℤ pos d *ℤ negℤ r ≡ negℤ (negℤ y -ℤ pos d *ℤ r) =
-            ring (y ∷ pos d ∷ r ∷ []) (v0 ⊖ v1 ⊗ neg v2) (neg (neg v0 ⊖ v1 ⊗ v2)) tt in
+        ring (y ∷ pos d ∷ r ∷ []) (v0 ⊖ v1 ⊗ neg v2) (neg (neg v0 ⊖ v1 ⊗ v2)) tt in
         record {
           near = rw (e, abs-neg (negℤ y -ℤ pos d *ℤ r)) (p .near);
           away = λ w. rw (abs-neg r) (subst (λ m. m ≤ d * natAbs r) (abs-neg y)
@@ -205,7 +205,7 @@ rnd-ge x l d h k =
     below (negsuc n) q =
         let y = x -ℤ pos d *ℤ l in
         let s : x -ℤ pos d *ℤ rnd x d ≡ y +ℤ pos d *ℤ negℤ (rnd x d -ℤ l) =
-            ring (x ∷ pos d ∷ rnd x d ∷ l ∷ []) (v0 ⊖ v1 ⊗ v2) (v0 ⊖ v1 ⊗ v3 ⊕ v1 ⊗ neg (v2 ⊖ v3)) tt in
+        ring (x ∷ pos d ∷ rnd x d ∷ l ∷ []) (v0 ⊖ v1 ⊗ v2) (v0 ⊖ v1 ⊗ v3 ⊕ v1 ⊗ neg (v2 ⊖ v3)) tt in
         let t : x -ℤ pos d *ℤ rnd x d ≡ y +ℤ pos (d * suc n) = s ∙ ap (λ z. y +ℤ pos d *ℤ negℤ z) q in
         absurd (omega (
           arith,

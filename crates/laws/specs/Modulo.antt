@@ -1,0 +1,56 @@
+-- The two remainders: `modulo`, never negative, by the machine's remainder; and how far each reaches.
+use mathlib.Core.Path.{_≡_, refl, ap, _∙_}
+use mathlib.Core.Logic.{_⊎_, inl, inr, ⊎-elim}
+use mathlib.Core.Bool.{true, false}
+use Prim.Native.Nat.{ℕ, suc, _+_, _-_, _%_, _≤_, _<_}
+use native.Mathlib.Nat.{suc-mod, mod-eq-of-lt, mod-self, mod-lt, lt-of-not-le}
+use native.Mathlib.Decide.{decLt}
+use native.Mathlib.Omega.{arith}
+use lib.Dec.{lit<}
+use lib.IntN.{ℤ, pos, negsuc, negℤ, natAbs, _+ℤ_}
+use lib.Signed.{remZ, ltZ}
+use Rattle.integers.specs.Difference.{ltZ-true, ltZ-false, eq-of-parts, add-is, posPart-neg, negPart-neg}
+use Rattle.integers.specs.Quotient.{rem-lt}
+use Rattle.rules.specs.Units.{circle}
+use Rattle.rules.specs.Rounding.{modulo, remainder}
+
+-- n and one more: the next remainder, or none
+next-rest : (n d : ℕ) → 0 < d → ((suc n % d ≡ 0) × (n % d + 1 ≡ d)) ⊎ (suc n % d ≡ n % d + 1)
+next-rest n d h = by (decLt (suc (n % d)) d)
+  where
+    by : Dec (suc (n % d) < d) → ((suc n % d ≡ 0) × (n % d + 1 ≡ d)) ⊎ (suc n % d ≡ n % d + 1)
+    by (yes k) = inr (suc-mod n d ∙ mod-eq-of-lt k ∙ omega arith)
+    by (no k) =
+        let e : suc (n % d) ≡ d = omega (arith, lt-of-not-le k, mod-lt n h) in
+        inl (suc-mod n d ∙ ap (λ m. m % d) e ∙ mod-self d, omega arith)
+
+pub modulo-lt : (a : ℤ) (d : ℕ) → 0 < d → modulo a d < d
+unfolding modulo
+modulo-lt (pos n) d h = mod-lt n h
+modulo-lt (negsuc n) d h = omega arith
+
+pub modulo-of-negative : (a : ℤ) (d : ℕ) → 0 < d → ltZ (remZ a (pos d)) (pos 0) ≡ true
+    → remZ a (pos d) +ℤ pos d ≡ pos (modulo a d)
+unfolding modulo
+modulo-of-negative (pos n) d h t = absurd (omega (arith, ltZ-true (pos (n % d)) (pos 0) t))
+modulo-of-negative (negsuc n) d h t =
+    let m = pos (suc n % d) in
+    let l = ltZ-true (negℤ m) (pos 0) t in
+    eq-of-parts (negℤ m +ℤ pos d) (pos (d - 1 - n % d))
+    (⊎-elim (λ k. omega (arith, add-is (negℤ m) (pos d), posPart-neg m, negPart-neg m))
+    (λ k. omega (arith, add-is (negℤ m) (pos d), posPart-neg m, negPart-neg m, mod-lt n h)) (next-rest n d h))
+
+pub modulo-of-nonnegative : (a : ℤ) (d : ℕ) → 0 < d → ltZ (remZ a (pos d)) (pos 0) ≡ false
+    → remZ a (pos d) ≡ pos (modulo a d)
+unfolding modulo
+modulo-of-nonnegative (pos n) d h t = refl
+modulo-of-nonnegative (negsuc n) d h t =
+    let m = pos (suc n % d) in
+    let l = ltZ-false (negℤ m) (pos 0) t in
+    eq-of-parts (negℤ m) (pos (d - 1 - n % d))
+    (⊎-elim (λ k. omega (arith, posPart-neg m, negPart-neg m))
+    (λ k. omega (arith, posPart-neg m, negPart-neg m)) (next-rest n d h))
+
+pub remainder-lt : (a : ℤ) → natAbs (remainder a) < circle
+unfolding remainder
+remainder-lt a = rem-lt a (pos circle) (lit< tt)
