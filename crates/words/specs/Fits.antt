@@ -3,7 +3,7 @@ use Prim.Native.Nat.{ℕ, suc, _≤_, _<_, _^_}
 use native.Mathlib.Omega.{arith}
 use lib.Dec.{ltb→lt}
 use lib.IntN.{ℤ, pos, negsuc, natAbs}
-use lib.Signed.{quotZ, remZ, mag-rem, _<ℤ_}
+use lib.Signed.{quotZ, remZ, mag-rem, _<ℤ_, _≤ℤ_}
 use mir.Syntax.{w32, w64}
 use mir.Val.{SFits, ofZ, toZ}
 use mir.Facts.{toZ-ofZ, sfits-widen}
@@ -25,6 +25,11 @@ size64 (negsuc n) h = h .sfits
 pub size32 : (x : ℤ) → SFits w32 x → natAbs x ≤ 2 ^ 31
 size32 (pos n) h = let k = h .sfits in omega arith
 size32 (negsuc n) h = h .sfits
+
+-- a number that is not negative is below the sign bit
+pub size64-lt : (x : ℤ) → SFits w64 x → pos 0 ≤ℤ x → natAbs x < 2 ^ 63
+size64-lt (pos n) h k = h .sfits
+size64-lt (negsuc n) h k = absurd (k .le)
 
 pub widened-fits : (x : ℤ) → SFits w32 x → SFits w64 x
 widened-fits x h = sfits-widen tt h

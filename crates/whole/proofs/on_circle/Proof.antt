@@ -1,17 +1,15 @@
+-- `whole::on_circle` meets its contract.
+use mathlib.Core.Path.{_≡_, _∙_}
 use borrow.Author.Needs.{needs}
+use mir.Facts.{toZ-ofZ}
 use Rattle.whole.proofs.on_circle.Statement.{statement}
 use Rattle.whole.proofs.on_circle.Tie as tie
-use Rattle.whole.proofs.on_circle.Reads as reads
-use Rattle.whole.proofs.on_circle.Lts as lts
-use Rattle.whole.proofs.modulo_of.Reads as modulo-of-reads
 
--- src/lib.rt:103:5
 modulo-of-requires : tie.Need-modulo-of-requires
 modulo-of-requires c κs = search needs
 
--- src/lib.rt:100:1
 returns : tie.Need-returns
-returns c = ?
+returns c = search needs ∙ rw (toZ-ofZ (c .before .fits .a)) at (c .modulo-of .ensures)
 
 pub on-circle-spec : {M : Type 1} → statement M
 on-circle-spec = tie.close (tie.spec modulo-of-requires returns)
