@@ -4,7 +4,7 @@ ghost use mathlib.Core.Path.{_≡_};
 ghost use Prim.Native.Nat.{ℕ, _≤_, _^_};
 ghost use lib.IntN.{ℤ, pos, natAbs, _*ℤ_};
 ghost use lib.Signed.{_<ℤ_, _≤ℤ_};
-ghost use Rattle.rules.specs.Units.{circle};
+ghost use Rattle.rules.specs.Units.{circle, between};
 ghost use Rattle.rules.specs.Rounding.{rnd, modulo};
 ghost use Rattle.rules.specs.Length.{root};
 ghost use Rattle.laws.specs.Product.{ProductFits};
@@ -101,4 +101,20 @@ pub fn on_circle(a: i64) -> i64
     ensures { λ r. ⌜ r ≡ pos (modulo a circle) ⌝ }
 {
     modulo_of(a, CIRCLE)
+}
+
+// Whether z lies from low to high, both ends included.
+//
+// Given: any three numbers.
+// Rule: 01, "not within", "not 1 to 3" and the like: every range of the refusals.
+pub fn is_between(low: i64, high: i64, z: i64) -> bool
+    ensures { λ r. ⌜ r ≡ between low high z ⌝ }
+{
+    if z < low {
+        return false;
+    }
+    if high < z {
+        return false;
+    }
+    true
 }

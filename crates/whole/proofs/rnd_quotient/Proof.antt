@@ -32,8 +32,8 @@ fit c =
     let b = c .args .b in
     let p = c .pre .0 in
     let twice : SFits w64 (pos 2 *ℤ remZ a b) =
-        fits64 (pos 2 *ℤ remZ a b)
-        (omega (arith, abs-mul (pos 2) (remZ a b), rem-lt a b (size-pos b p), c .pre .1)) in
+    fits64 (pos 2 *ℤ remZ a b)
+    (omega (arith, abs-mul (pos 2) (remZ a b), rem-lt a b (size-pos b p), c .pre .1)) in
     record {
       dividend = c .fits .a;
       divisor = c .fits .b;

@@ -108,7 +108,7 @@ loop-again : tie.Need-loop-again Inv-loop μ-loop
 loop-again c =
     let at = c .before .before in
     let t = leb-true (trial at * trial at) (number (at .before))
-        (simp (locals, square-held (c .before)) at (c .if1 .taken)) in
+    (simp (locals, square-held (c .before)) at (c .if1 .taken)) in
     let i = simp locals at (at .loop .inv) in
     simp locals (omega (arith, more (c .before)))
 
@@ -119,7 +119,7 @@ loop-again-2 : tie.Need-loop-again-2 Inv-loop μ-loop
 loop-again-2 c =
     let at = c .before .before in
     let t = leb-false (trial at * trial at) (number (at .before))
-        (simp (locals, square-held (c .before)) at (c .if1 .left)) in
+    (simp (locals, square-held (c .before)) at (c .if1 .left)) in
     let i = simp locals at (at .loop .inv) in
     simp locals (omega (arith, more (c .before)))
 
