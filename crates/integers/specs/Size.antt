@@ -1,11 +1,12 @@
 -- The size of an integer, `natAbs`: sums, differences, products; a bound from two orders.
 use mathlib.Core.Path.{_≡_, refl}
+use mathlib.Core.Bool.{true, false}
 use Prim.Native.Nat.{ℕ, zero, suc, _+_, _*_, _≤_, min}
 use native.Mathlib.Nat.{mul-le-mul}
 use native.Mathlib.Omega.{arith}
 use lib.IntN.{ℤ, pos, negsuc, negℤ, natAbs, _+ℤ_, _-ℤ_, _*ℤ_}
-use lib.Signed.{mag}
-use Rattle.integers.specs.Difference.{posPart, negPart, add-is}
+use lib.Signed.{mag, ltZ}
+use Rattle.integers.specs.Difference.{posPart, negPart, add-is, sub-is, eq-of-parts, ltZ-true, ltZ-false}
 
 -- ---- what `omega` is given of one integer
 
@@ -48,6 +49,15 @@ abs-mul-le x y a b h k = rw (abs-mul x y) (mul-le-mul h k)
 pub square-abs : (x : ℤ) → x *ℤ x ≡ pos (natAbs x * natAbs x)
 square-abs (pos n) = refl
 square-abs (negsuc n) = refl
+
+-- ---- the size, by a test of the sign
+
+pub abs-of-negative : (x : ℤ) → ltZ x (pos 0) ≡ true → pos 0 -ℤ x ≡ pos (natAbs x)
+abs-of-negative x e = eq-of-parts (pos 0 -ℤ x) (pos (natAbs x))
+    (omega (arith, sub-is (pos 0) x, abs-is x, parts-apart x, ltZ-true x (pos 0) e))
+
+pub abs-of-nonnegative : (x : ℤ) → ltZ x (pos 0) ≡ false → x ≡ pos (natAbs x)
+abs-of-nonnegative x e = eq-of-parts x (pos (natAbs x)) (omega (arith, abs-is x, ltZ-false x (pos 0) e))
 
 -- ---- `mag`, by which a signed range is one bound
 

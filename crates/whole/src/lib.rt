@@ -118,3 +118,13 @@ pub fn is_between(low: i64, high: i64, z: i64) -> bool
     }
     true
 }
+
+// The size of z, without its sign.
+//
+// Given: z, to 2^62 in size: the lowest i64 has a size that no i64 holds.
+pub fn size_of(z: i64) -> i64
+    requires { ⌜ natAbs z ≤ 2 ^ 62 ⌝ }
+    ensures { λ r. ⌜ r ≡ pos (natAbs z) ⌝ }
+{
+    if z < 0 { -z } else { z }
+}
