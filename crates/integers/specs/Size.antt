@@ -57,7 +57,8 @@ abs-of-negative x e = eq-of-parts (pos 0 -ℤ x) (pos (natAbs x))
     (omega (arith, sub-is (pos 0) x, abs-is x, parts-apart x, ltZ-true x (pos 0) e))
 
 pub abs-of-nonnegative : (x : ℤ) → ltZ x (pos 0) ≡ false → x ≡ pos (natAbs x)
-abs-of-nonnegative x e = eq-of-parts x (pos (natAbs x)) (omega (arith, abs-is x, ltZ-false x (pos 0) e))
+abs-of-nonnegative x e = eq-of-parts x (pos (natAbs x))
+    (omega (arith, abs-is x, parts-apart x, ltZ-false x (pos 0) e))
 
 -- ---- `mag`, by which a signed range is one bound
 
