@@ -88,8 +88,6 @@ fn product_fits(a: i64, b: i64, d: i64) -> bool
     if !whole::is_between(-MOST_B, MOST_B, b) {
         return false;
     }
-    let times = a / d;
-    let size = if times < 0 { -times } else { times };
-    let most = MOST_RESULT / (size + 1);
+    let most = MOST_RESULT / (whole::size_of(a / d) + 1);
     whole::is_between(-most, most, b)
 }

@@ -1,13 +1,15 @@
 -- What fits a signed word: from a bound on the size, and for the quotient and remainder of any two words.
+use mathlib.Core.Path.{_≡_}
 use Prim.Native.Nat.{ℕ, suc, _≤_, _<_, _^_}
 use native.Mathlib.Omega.{arith}
 use lib.Dec.{ltb→lt}
 use lib.IntN.{ℤ, pos, negsuc, natAbs}
-use lib.Signed.{quotZ, remZ, mag-rem, _<ℤ_, _≤ℤ_}
+use lib.Signed.{mag, quotZ, remZ, mag-rem, _<ℤ_, _≤ℤ_}
 use mir.Syntax.{w32, w64}
 use mir.Val.{SFits, ofZ, toZ}
 use mir.Facts.{toZ-ofZ, sfits-widen}
 use mir.ValLaws.{sfits-le}
+use borrow.Author.Needs.{sfits-of}
 use Rattle.integers.specs.Size.{mag-le}
 use Rattle.integers.specs.Quotient.{mag-quot}
 
@@ -30,6 +32,13 @@ size32 (negsuc n) h = h .sfits
 pub size64-lt : (x : ℤ) → SFits w64 x → pos 0 ≤ℤ x → natAbs x < 2 ^ 63
 size64-lt (pos n) h k = h .sfits
 size64-lt (negsuc n) h k = absurd (k .le)
+
+-- a number that fits is read back as it was stored; a call's result is known to fit by its `ok`
+pub held64 : (z : ℤ) → mag z < 2 ^ 63 → toZ w64 (ofZ w64 z) ≡ z
+held64 z l = toZ-ofZ (sfits-of l)
+
+pub held32 : (z : ℤ) → mag z < 2 ^ 31 → toZ w32 (ofZ w32 z) ≡ z
+held32 z l = toZ-ofZ (sfits-of l)
 
 pub widened-fits : (x : ℤ) → SFits w32 x → SFits w64 x
 widened-fits x h = sfits-widen tt h
