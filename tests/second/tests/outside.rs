@@ -1,5 +1,7 @@
 //! The second program beside values that others published: a misread sign or unit of document 01 would show here.
 
+#![allow(clippy::excessive_precision)] // published values stand as they are printed
+
 use std::f64::consts::PI;
 
 use second::circle::pair;

@@ -1,0 +1,93 @@
+//! The comparison of an exported function with the second program, bit for bit.
+
+use std::fmt::Write as _;
+use std::io::Write as _;
+
+use crate::chance::seed;
+use crate::function::{Call, Function};
+
+/// So many calls go to the module at once.
+const BATCH: usize = 4096;
+
+/// Compares the function over calls with numbers alone: `compare_lent` tells the rest.
+pub fn compare<const GIVEN: usize, const ANSWERED: usize>(
+    function: &Function<GIVEN, ANSWERED>,
+    what: &str,
+    calls: impl IntoIterator<Item = [i64; GIVEN]>,
+    second: impl Fn([i64; GIVEN]) -> [i64; ANSWERED],
+) {
+    let calls = calls.into_iter().map(Call::from);
+    compare_lent(function, what, calls, |call| second(call.given));
+}
+
+/// Compares the function's answer, and the room that it was lent, with the second program's over all the calls, and prints
+/// how many there were. A mismatch ends the test with both answers.
+pub fn compare_lent<const GIVEN: usize, const ANSWERED: usize>(
+    function: &Function<GIVEN, ANSWERED>,
+    what: &str,
+    calls: impl IntoIterator<Item = Call<GIVEN>>,
+    second: impl Fn(&mut Call<GIVEN>) -> [i64; ANSWERED],
+) {
+    let (mut compared, mut answered) = (0, 0);
+    let mut calls = calls.into_iter();
+    loop {
+        let given: Vec<Call<GIVEN>> = calls.by_ref().take(BATCH).collect();
+        if given.is_empty() {
+            break;
+        }
+        let mut ours = given.clone();
+        let answers = function.answers(&mut ours);
+        assert_eq!(answers.len(), given.len());
+        for ((given, ours), answer) in given.into_iter().zip(ours).zip(answers) {
+            let mut theirs = given.clone();
+            let expected = second(&mut theirs);
+            if (answer, &ours.room) != (expected, &theirs.room) {
+                panic!(
+                    "{} differs, seed {}\n  given   {}\n  module  {}\n  second  {}",
+                    function.name,
+                    seed(),
+                    described(&function.given, &given.given, &given.read),
+                    described(&function.answered, &answer, &ours.room),
+                    described(&function.answered, &expected, &theirs.room),
+                );
+            }
+            compared += 1;
+            answered += u64::from(is_answer(function, answer));
+        }
+    }
+    assert!(
+        compared > 0,
+        "{}, {what}: nothing to compare",
+        function.name
+    );
+    // written past the test harness, which keeps what a passing test prints
+    let line = format!(
+        "compared {}, {what}: {compared}, answered {answered}",
+        function.name
+    );
+    writeln!(std::io::stdout(), "{line}").expect("standard output");
+}
+
+/// The function did not refuse.
+fn is_answer<const GIVEN: usize, const ANSWERED: usize>(
+    function: &Function<GIVEN, ANSWERED>,
+    answer: [i64; ANSWERED],
+) -> bool {
+    match function.answered[0] {
+        "met" => answer[0] == 1,
+        "refused" => answer[0] == 0,
+        _ => true,
+    }
+}
+
+/// Words by name, and bytes as text.
+fn described(names: &[&str], words: &[i64], bytes: &[u8]) -> String {
+    let mut text = String::new();
+    for (name, word) in names.iter().zip(words) {
+        write!(text, "{name} {word}  ").expect("a string takes all");
+    }
+    if !bytes.is_empty() {
+        write!(text, "bytes \"{}\"", bytes.escape_ascii()).expect("a string takes all");
+    }
+    text
+}
