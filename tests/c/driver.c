@@ -7,6 +7,7 @@
 #include <string.h>
 
 #include "inner.h"
+#include "module.h"
 
 struct call {
     const int64_t *given;
@@ -16,21 +17,46 @@ struct call {
     size_t room_length;
 };
 
+static _Noreturn void fail(const char *what, const char *name) {
+    fprintf(stderr, "driver: %s: %.64s\n", what, name);
+    exit(EXIT_FAILURE);
+}
+
+/* A word for a parameter of 32 bits. */
+static int32_t narrow(int64_t word) {
+    if (word < INT32_MIN || word > INT32_MAX) fail("a number", "does not fit 32 bits");
+    return (int32_t)word;
+}
+
 /* Every exported function: its name, how many words it is given, the type of its answer, and what it is called with. */
-#define FUNCTIONS(FUNCTION)                                                                        \
-    FUNCTION(inner_rnd_quotient, 2, struct inner_tried, given[0], given[1])                         \
-    FUNCTION(inner_rnd_product_quotient, 3, struct inner_tried, given[0], given[1], given[2])       \
-    FUNCTION(inner_whole_root, 1, struct inner_tried, given[0])                                     \
-    FUNCTION(inner_on_circle, 1, struct inner_tried, given[0])
+#define FUNCTIONS(FUNCTION)                                                                                            \
+    FUNCTION(inner_rnd_quotient, 2, struct inner_tried, given[0], given[1])                                            \
+    FUNCTION(inner_rnd_product_quotient, 3, struct inner_tried, given[0], given[1], given[2])                          \
+    FUNCTION(inner_whole_root, 1, struct inner_tried, given[0])                                                        \
+    FUNCTION(inner_on_circle, 1, struct inner_tried, given[0])                                                         \
+    FUNCTION(inner_pair, 1, struct inner_pair, given[0])                                                               \
+    FUNCTION(turbelicus_turn, 5, struct turbelicus_turned, given[0], given[1], given[2], given[3], given[4])           \
+    FUNCTION(turbelicus_reading, 2, int64_t, narrow(given[0]), narrow(given[1]))                                       \
+    FUNCTION(inner_day_of, 3, struct inner_day, narrow(given[0]), narrow(given[1]), narrow(given[2]))                  \
+    FUNCTION(inner_date_of, 1, struct inner_date, given[0])                                                            \
+    FUNCTION(inner_instants, 8, struct inner_instants, narrow(given[0]), narrow(given[1]), narrow(given[2]),           \
+             narrow(given[3]), narrow(given[4]), narrow(given[5]), narrow(given[6]), narrow(given[7]))                 \
+    FUNCTION(inner_times_line, 0, size_t, call->read, call->read_length, call->room, call->room_length)                \
+    FUNCTION(inner_precession, 1, struct inner_precession, given[0])                                                   \
+    FUNCTION(inner_obliquity, 1, struct inner_angle, given[0])                                                         \
+    FUNCTION(inner_arguments, 1, struct inner_arguments, given[0])                                                     \
+    FUNCTION(inner_nutation, 1, struct inner_nutation, given[0])                                                       \
+    FUNCTION(inner_sun, 1, struct inner_angle, given[0])                                                               \
+    FUNCTION(inner_sidereal, 1, struct inner_angle, given[0])
 
 /* A weak name is null where no archive has the function, so that the driver can be built before all of them stand. */
-#define CALLER(function, count, type, ...)                                                         \
-    extern __typeof__(function) function __attribute__((weak));                                    \
-    static void call_##function(const struct call *call, int64_t *answered) {                       \
-        const int64_t *given = call->given;                                                        \
-        (void)given;                                                                               \
-        type answer = function(__VA_ARGS__);                                                       \
-        memcpy(answered, &answer, sizeof answer);                                                  \
+#define CALLER(function, count, type, ...)                                                                             \
+    extern __typeof__(function) function __attribute__((weak));                                                        \
+    static void call_##function(const struct call *call, int64_t *answered) {                                          \
+        const int64_t *given = call->given;                                                                            \
+        (void)given;                                                                                                   \
+        type answer = function(__VA_ARGS__);                                                                           \
+        memcpy(answered, &answer, sizeof answer);                                                                      \
     }
 FUNCTIONS(CALLER)
 
@@ -41,7 +67,7 @@ struct row {
     int stands;
 };
 
-#define ROW(function, count, type, ...)                                                            \
+#define ROW(function, count, type, ...)                                                                                \
     {#function, count, sizeof(type) / sizeof(int64_t), call_##function, function != NULL},
 
 struct batch {
@@ -52,11 +78,6 @@ struct batch {
 /* The bridge sends no larger batch: 2^21 bytes. */
 #define MOST_WORDS ((int64_t)1 << 18)
 static int64_t body[MOST_WORDS], answers[MOST_WORDS];
-
-static _Noreturn void fail(const char *what, const char *name) {
-    fprintf(stderr, "driver: %s: %.64s\n", what, name);
-    exit(EXIT_FAILURE);
-}
 
 static struct row row_of(const struct batch *batch) {
     const struct row rows[] = {FUNCTIONS(ROW)};

@@ -1,7 +1,6 @@
 //! The comparison of an exported function with the second program, bit for bit.
 
-use std::fmt::Write as _;
-use std::io::Write as _;
+use std::io::Write;
 
 use crate::chance::seed;
 use crate::function::{Call, Function};
@@ -68,6 +67,21 @@ pub fn compare_lent<const GIVEN: usize, const ANSWERED: usize>(
     writeln!(std::io::stdout(), "{line}").expect("standard output");
 }
 
+/// The words of an answer that may be refused: nought and the numbers, or the number of the refusal and noughts.
+pub fn words<const ANSWERED: usize>(answer: Result<Vec<i128>, i64>) -> [i64; ANSWERED] {
+    let mut words = [0; ANSWERED];
+    match answer {
+        Err(refusal) => words[0] = refusal,
+        Ok(numbers) => {
+            assert_eq!(numbers.len(), ANSWERED - 1, "one word for each number");
+            for (word, number) in words[1..].iter_mut().zip(numbers) {
+                *word = i64::try_from(number).expect("an answer of 64 bits");
+            }
+        }
+    }
+    words
+}
+
 /// The function did not refuse.
 fn is_answer<const GIVEN: usize, const ANSWERED: usize>(
     function: &Function<GIVEN, ANSWERED>,
@@ -82,12 +96,10 @@ fn is_answer<const GIVEN: usize, const ANSWERED: usize>(
 
 /// Words by name, and bytes as text.
 fn described(names: &[&str], words: &[i64], bytes: &[u8]) -> String {
-    let mut text = String::new();
-    for (name, word) in names.iter().zip(words) {
-        write!(text, "{name} {word}  ").expect("a string takes all");
-    }
+    let named = |(name, word): (&&str, &i64)| format!("{name} {word}");
+    let mut parts: Vec<String> = names.iter().zip(words).map(named).collect();
     if !bytes.is_empty() {
-        write!(text, "bytes \"{}\"", bytes.escape_ascii()).expect("a string takes all");
+        parts.push(format!("bytes \"{}\"", bytes.escape_ascii()));
     }
-    text
+    parts.join("  ")
 }

@@ -20,7 +20,10 @@ impl Direction {
 
     /// A direction is accepted when its squared length is within 2^32 of 2^60, both ends included.
     pub fn accepted(self) -> bool {
-        (self.squared_length() - (1 << 60)).abs() <= 1 << 32
+        // a part of more than 2^31 is too long by itself; the squares of three 64-bit numbers might pass 128 bits
+        let short = |part: Whole| part.abs() <= 1 << 31;
+        [self.x, self.y, self.z].into_iter().all(short)
+            && (self.squared_length() - (1 << 60)).abs() <= 1 << 32
     }
 
     /// L is the whole root (downward) of the squares' sum, each part becomes Rnd(part × 2^30 / L).
