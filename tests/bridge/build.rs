@@ -1,12 +1,13 @@
 //! Reads `tests/exports`: links its archives where the processor can, and switches on its subjects (cfg `exported`).
 
-use std::path::Path;
+use std::path::PathBuf;
 use std::{env, fs};
 
 const SUBJECTS: [&str; 6] = ["whole", "circle", "turning", "reading", "dates", "earth"];
 
 fn main() {
-    let tests = Path::new(env!("CARGO_MANIFEST_DIR")).join("..");
+    let bridge = env::var_os("CARGO_MANIFEST_DIR").expect("cargo runs this");
+    let tests = PathBuf::from(bridge).join("..");
     let archives = tests.join("../target/staticlib");
     let exports = tests.join("exports");
     let linked = env::var("CARGO_CFG_TARGET_ARCH").as_deref() == Ok("x86_64");

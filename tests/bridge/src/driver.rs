@@ -4,8 +4,9 @@
 //! of words answered, and of bytes that follow. A call is its words, the length of the bytes to read and of the room, and
 //! those two, each filled up to whole words. An answer is its words and the room.
 
+use std::env;
 use std::io::{Read, Write};
-use std::path::Path;
+use std::path::PathBuf;
 use std::process::{Child, Command, Stdio};
 use std::sync::{Mutex, PoisonError};
 
@@ -66,7 +67,8 @@ fn exchange(request: &[u8], reply: &mut [u8]) {
 }
 
 fn start() -> Child {
-    let tests = Path::new(env!("CARGO_MANIFEST_DIR")).join("..");
+    let bridge = env::var_os("CARGO_MANIFEST_DIR").expect("cargo runs the tests");
+    let tests = PathBuf::from(bridge).join("..");
     let program = tests.join("../target/c/driver");
     assert!(
         program.exists(),
