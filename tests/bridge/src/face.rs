@@ -1,7 +1,9 @@
 //! Every exported function that the tests call, by subject; `tests/exports` says which stand. Nothing checks these
 //! declarations against the Rattle source: `tests/c/driver.c` and the headers that it includes say the same in C.
 
-use crate::function::{exported, Function, Words};
+#[cfg(linked)]
+use crate::function::Words;
+use crate::function::{exported, Function};
 
 #[cfg(exported = "whole")]
 exported! {

@@ -30,6 +30,7 @@ pub struct Function<const GIVEN: usize, const ANSWERED: usize> {
 }
 
 /// The answer of every exported function is a C struct of 64-bit numbers, or one such number, which C returns alike.
+#[cfg(linked)]
 #[repr(C)]
 pub struct Words<const ANSWERED: usize>(pub [i64; ANSWERED]);
 
