@@ -3,7 +3,9 @@
 use std::path::PathBuf;
 use std::{env, fs};
 
-const SUBJECTS: [&str; 6] = ["whole", "circle", "turning", "reading", "dates", "earth"];
+const SUBJECTS: [&str; 7] = [
+    "whole", "circle", "turning", "reading", "dates", "earth", "place",
+];
 
 fn main() {
     let bridge = env::var_os("CARGO_MANIFEST_DIR").expect("cargo runs this");

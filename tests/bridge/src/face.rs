@@ -67,6 +67,7 @@ pub const TIMES_LINE: Function<0, 1> = Function {
         // Safety: `tests/exports` says that the archive has it; each pointer goes with its own length.
         unsafe { inner_times_line(line.as_ptr(), line.len(), out.as_mut_ptr(), out.len()) }.0
     },
+    blank: |_| {},
 };
 
 #[cfg(exported = "earth")]
@@ -83,4 +84,14 @@ exported! {
     SUN = inner_sun(tt: i64) -> (refused, angle);
     /// The sidereal angle at a UT instant.
     SIDEREAL = inner_sidereal(ut: i64) -> (refused, angle);
+}
+
+#[cfg(exported = "place")]
+exported! {
+    /// The place of a star at a UTC date and time, over a site.
+    PLACE = turbelicus_place(
+        year: i32, month: i32, day: i32, hour: i32, minute: i32, second: i32, ms: i32, difference: i32,
+        latitude: i64, longitude: i64,
+        ra: i64, declination: i64, ra_motion: i32, declination_motion: i32
+    ) -> (refused, ra, declination, azimuth, altitude);
 }

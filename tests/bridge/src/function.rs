@@ -1,5 +1,6 @@
 //! An exported function as the tests see it: 64-bit words in, words out, and perhaps bytes lent.
 
+#[cfg(linked)]
 use std::env;
 
 use crate::driver;
@@ -27,6 +28,8 @@ pub struct Function<const GIVEN: usize, const ANSWERED: usize> {
     pub answered: [&'static str; ANSWERED],
     #[cfg(linked)]
     pub linked: fn(&mut Call<GIVEN>) -> [i64; ANSWERED],
+    /// Makes nought what is no value in the room: the bytes between the fields of a struct.
+    pub blank: fn(&mut [u8]),
 }
 
 /// The answer of every exported function is a C struct of 64-bit numbers, or one such number, which C returns alike.
@@ -37,19 +40,27 @@ pub struct Words<const ANSWERED: usize>(pub [i64; ANSWERED]);
 impl<const GIVEN: usize, const ANSWERED: usize> Function<GIVEN, ANSWERED> {
     /// The answers to the calls, whose room is as the function left it.
     pub fn answers(&self, calls: &mut [Call<GIVEN>]) -> Vec<[i64; ANSWERED]> {
+        let answers = self.answers_of_module(calls);
+        for call in calls {
+            (self.blank)(&mut call.room);
+        }
+        answers
+    }
+
+    fn answers_of_module(&self, calls: &mut [Call<GIVEN>]) -> Vec<[i64; ANSWERED]> {
         #[cfg(linked)]
         if !through_driver() {
             return calls.iter_mut().map(self.linked).collect();
         }
-        assert!(through_driver(), "only the driver can be called here");
         driver::answers(self.name, calls)
     }
 }
 
-/// The calls go to the driver: always where the archives cannot be linked.
-pub fn through_driver() -> bool {
+/// The calls go to the driver though the archives are linked.
+#[cfg(linked)]
+fn through_driver() -> bool {
     match env::var("TURBELICUS_FACE").as_deref() {
-        Err(_) => cfg!(not(linked)),
+        Err(_) => false,
         Ok("driver") => true,
         Ok(other) => panic!("TURBELICUS_FACE is 'driver' or not set, not {other:?}"),
     }
@@ -72,6 +83,7 @@ macro_rules! exported {
                 // Safety: `tests/exports` says that the archive has it; numbers alone go in and out.
                 unsafe { $name($(<$kind>::try_from($part).expect("a number of the C type")),+) }.0
             },
+            blank: |_| {},
         };
     )*};
 }
