@@ -1,0 +1,90 @@
+//! An exported function as the tests see it: 64-bit words in, words out, and perhaps bytes lent.
+
+#[cfg(linked)]
+use std::env;
+
+use crate::driver;
+
+/// What a function is given: numbers, bytes to read and bytes to write to.
+#[derive(Clone, Debug, PartialEq, Eq)]
+pub struct Call<const GIVEN: usize> {
+    pub given: [i64; GIVEN],
+    pub read: Vec<u8>,
+    pub room: Vec<u8>,
+}
+
+impl<const GIVEN: usize> From<[i64; GIVEN]> for Call<GIVEN> {
+    /// Numbers alone.
+    fn from(given: [i64; GIVEN]) -> Self {
+        let (read, room) = (Vec::new(), Vec::new());
+        Call { given, read, room }
+    }
+}
+
+/// An exported function, with the names of the words that it is given and answers.
+pub struct Function<const GIVEN: usize, const ANSWERED: usize> {
+    pub name: &'static str,
+    pub given: [&'static str; GIVEN],
+    pub answered: [&'static str; ANSWERED],
+    #[cfg(linked)]
+    pub linked: fn(&mut Call<GIVEN>) -> [i64; ANSWERED],
+    /// Makes nought what is no value in the room: the bytes between the fields of a struct.
+    pub blank: fn(&mut [u8]),
+}
+
+/// The answer of every exported function is a C struct of 64-bit numbers, or one such number, which C returns alike.
+#[cfg(linked)]
+#[repr(C)]
+pub struct Words<const ANSWERED: usize>(pub [i64; ANSWERED]);
+
+impl<const GIVEN: usize, const ANSWERED: usize> Function<GIVEN, ANSWERED> {
+    /// The answers to the calls, whose room is as the function left it.
+    pub fn answers(&self, calls: &mut [Call<GIVEN>]) -> Vec<[i64; ANSWERED]> {
+        let answers = self.answers_of_module(calls);
+        for call in calls {
+            (self.blank)(&mut call.room);
+        }
+        answers
+    }
+
+    fn answers_of_module(&self, calls: &mut [Call<GIVEN>]) -> Vec<[i64; ANSWERED]> {
+        #[cfg(linked)]
+        if !through_driver() {
+            return calls.iter_mut().map(self.linked).collect();
+        }
+        driver::answers(self.name, calls)
+    }
+}
+
+/// The calls go to the driver though the archives are linked.
+#[cfg(linked)]
+fn through_driver() -> bool {
+    match env::var("TURBELICUS_FACE").as_deref() {
+        Err(_) => false,
+        Ok("driver") => true,
+        Ok(other) => panic!("TURBELICUS_FACE is 'driver' or not set, not {other:?}"),
+    }
+}
+
+/// Declares exported functions of numbers: `CONSTANT = name(part: C type, ..) -> (word, ..);`.
+macro_rules! exported {
+    ($($(#[$about:meta])* $constant:ident = $name:ident($($part:ident: $kind:ty),+) -> ($($word:ident),+);)*) => {$(
+        $(#[$about])*
+        pub const $constant: Function<{ [$(stringify!($part)),+].len() }, { [$(stringify!($word)),+].len() }> = Function {
+            name: stringify!($name),
+            given: [$(stringify!($part)),+],
+            answered: [$(stringify!($word)),+],
+            #[cfg(linked)]
+            linked: |call| {
+                extern "C" {
+                    fn $name($($part: $kind),+) -> Words<{ [$(stringify!($word)),+].len() }>;
+                }
+                let [$($part),+] = call.given;
+                // Safety: `tests/exports` says that the archive has it; numbers alone go in and out.
+                unsafe { $name($(<$kind>::try_from($part).expect("a number of the C type")),+) }.0
+            },
+            blank: |_| {},
+        };
+    )*};
+}
+pub(crate) use exported;

@@ -1,0 +1,11 @@
+//! The bridge between the Rust tests and the proved module: `tests/` compares the two programs over it.
+//!
+//! On x86-64 the archives of `rt staticlib` are linked and called directly. They hold x86-64 code, so on another processor
+//! the calls go in batches to a C program under the kit's emulator, `tests/c/driver.c`. `TURBELICUS_FACE=driver` takes
+//! that way on x86-64 too.
+
+pub mod chance;
+pub mod compare;
+mod driver;
+pub mod face;
+pub mod function;

@@ -1,0 +1,152 @@
+//! Places: `place` beside `place.rs`.
+#![cfg(exported = "place")]
+
+use bridge::chance::Chance;
+use bridge::compare::{compare, words};
+use bridge::face::PLACE;
+use second::dates::{Date, Moment};
+use second::place::{self, Site, Star};
+use second::units::{Whole, CIRCLE, HALF_CIRCLE, QUARTER};
+
+const RANDOM: usize = 100_000;
+
+/// Date and time, site, star: the least and the most of each part.
+const RANGES: [(i64, i64); 14] = {
+    let (quarter, half_circle, last) = (QUARTER as i64, HALF_CIRCLE as i64, CIRCLE as i64 - 1);
+    [
+        (1972, 2099),
+        (1, 12),
+        (1, 31),
+        (0, 23),
+        (0, 59),
+        (0, 59),
+        (0, 999),
+        (-900, 900),
+        (-quarter, quarter),
+        (-half_circle, half_circle),
+        (0, last),
+        (-quarter, quarter),
+        (-100_000_000, 100_000_000),
+        (-100_000_000, 100_000_000),
+    ]
+};
+
+/// J2000.0, a site and a star without motion.
+const GOOD: [i64; 14] = [2000, 1, 1, 12, 0, 0, 0, 0, 0, 0, 0, 0, 0, 0];
+
+fn place(given: [i64; 14]) -> [i64; 5] {
+    let [year, month, day, hour, minute, second, ms, difference, rest @ ..] =
+        given.map(Whole::from);
+    let moment = Moment {
+        date: Date { year, month, day },
+        hour,
+        minute,
+        second,
+        ms,
+        difference,
+    };
+    let [latitude, longitude, right_ascension, declination, motion_right_ascension, motion_declination] =
+        rest;
+    let site = Site {
+        latitude,
+        longitude,
+    };
+    let star = Star {
+        right_ascension,
+        declination,
+        motion_right_ascension,
+        motion_declination,
+    };
+    let placed = place::place(moment, site, star);
+    words(placed.map(|place| {
+        vec![
+            place.right_ascension,
+            place.declination,
+            place.azimuth,
+            place.altitude,
+        ]
+    }))
+}
+
+#[test]
+fn random_places() {
+    let mut chance = Chance::new("random_places");
+    let random = (0..RANDOM).map(|_| RANGES.map(|(low, high)| chance.within(low, high)));
+    compare(&PLACE, "random", random, place);
+}
+
+/// Stars and sites at the ends and in the middle of every range, at the first, middle and last moment of the span:
+/// poles, zenith and the meridian among them.
+#[test]
+fn ends_of_ranges() {
+    let moments = [
+        [1972, 1, 1, 0, 0, 0, 0, -900],
+        [2000, 1, 1, 12, 0, 0, 0, 0],
+        [2099, 12, 31, 23, 59, 59, 999, 900],
+    ];
+    let mut calls: Vec<Vec<i64>> = moments.iter().map(|moment| moment.to_vec()).collect();
+    for (low, high) in &RANGES[8..] {
+        let values = [*low, (low + high) / 2, *high];
+        let longer = |call: &Vec<i64>| values.map(|value| [&call[..], &[value]].concat());
+        calls = calls.iter().flat_map(longer).collect();
+    }
+    let calls = calls
+        .into_iter()
+        .map(|call| call.try_into().expect("every part is given"));
+    compare(&PLACE, "ends of ranges", calls, place);
+}
+
+/// One past each end of each range, alone.
+#[test]
+fn one_past_each_end() {
+    let past = RANGES.iter().enumerate().flat_map(|(part, (low, high))| {
+        let ends = [low - 1, *low, *high, high + 1];
+        ends.map(|end| {
+            let mut call = GOOD;
+            call[part] = end;
+            call
+        })
+    });
+    compare(&PLACE, "one past each end", past, place);
+}
+
+/// Checks run in rising number: every choice of good and bad parts.
+#[test]
+fn order_of_refusals() {
+    let calls = (0..1 << GOOD.len()).map(|choice| {
+        let part = |part: usize| {
+            if choice >> part & 1 == 0 {
+                GOOD[part]
+            } else {
+                RANGES[part].1 + 1
+            }
+        };
+        std::array::from_fn(part)
+    });
+    compare(&PLACE, "every choice of bad parts", calls, place);
+}
+
+/// One star over one site through a day, every ten seconds.
+#[test]
+fn one_day() {
+    let mut chance = Chance::new("one_day");
+    let ranges = RANGES[8..].iter();
+    let star_and_site: Vec<i64> = ranges
+        .map(|(low, high)| chance.within(*low, *high))
+        .collect();
+    let day = (0..24 * 60 * 60).step_by(10).map(|time| {
+        let moment = [
+            2024,
+            2,
+            29,
+            time / 3600,
+            time / 60 % 60,
+            time % 60,
+            500,
+            -17,
+        ];
+        let call = [&moment[..], &star_and_site].concat();
+        call.try_into().expect("every part is given")
+    });
+    compare(&PLACE, "one day", day, place);
+}

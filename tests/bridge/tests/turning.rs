@@ -1,0 +1,201 @@
+//! Turns: `turning` beside `turning.rs`, and the way back measured.
+#![cfg(exported = "turning")]
+
+use std::io::Write;
+
+use bridge::chance::{around, Chance};
+use bridge::compare::{compare, words};
+use bridge::face::TURN;
+use second::rounding::{rnd, root};
+use second::turning::{self, Direction};
+use second::units::{Whole, CIRCLE, UNIT};
+
+const RANDOM: usize = 100_000;
+const MOST_ANGLE: i64 = CIRCLE as i64 - 1;
+const PART: i64 = UNIT as i64;
+
+fn turn(given: [i64; 5]) -> [i64; 4] {
+    let [x, y, z, axis, angle] = given.map(Whole::from);
+    let turned = turning::turn(Direction { x, y, z }, axis, angle);
+    words(turned.map(|turned| vec![turned.x, turned.y, turned.z]))
+}
+
+/// A direction near the sphere of 2^30: most are accepted, some are not.
+fn direction(chance: &mut Chance) -> [i64; 3] {
+    let [x, y, z] = [(); 3].map(|()| chance.of_any_size(-PART, PART));
+    // the length in parts of 2^30, so that a short one scales as well as a long one
+    let length = root(squares([x, y, z]) << 60).max(1);
+    // a stretch of a few parts crosses both ends of acceptance
+    let stretch = if chance.once_in(4) {
+        chance.within(-3, 3)
+    } else {
+        0
+    };
+    let stretched = |part: i64| {
+        rnd(
+            (Whole::from(part) * (UNIT + Whole::from(stretch))) << 30,
+            length,
+        )
+    };
+    [x, y, z].map(|part| stretched(part) as i64)
+}
+
+fn squares(parts: [i64; 3]) -> Whole {
+    parts.iter().map(|part| Whole::from(*part).pow(2)).sum()
+}
+
+/// A direction of exactly this squared length near 2^60, if three squares make it.
+fn of_squared_length(squared: Whole) -> Option<[i64; 3]> {
+    let longest = root(squared);
+    let split = |x: Whole| {
+        let rest = squared - x * x;
+        let y = (0..=root(rest / 2)).find(|y| root(rest - y * y).pow(2) == rest - y * y)?;
+        Some([x, y, root(rest - y * y)].map(|part| part as i64))
+    };
+    (longest - 40..=longest).rev().find_map(split)
+}
+
+#[test]
+fn random_turns() {
+    let mut chance = Chance::new("random_turns");
+    let random = (0..RANDOM).map(|_| {
+        let [x, y, z] = direction(&mut chance);
+        [
+            x,
+            y,
+            z,
+            chance.within(1, 3),
+            chance.within(-MOST_ANGLE, MOST_ANGLE),
+        ]
+    });
+    compare(&TURN, "random", random, turn);
+}
+
+#[test]
+fn axes_and_angles() {
+    let mut axes = around(&[i64::MIN, i64::MAX], 1);
+    axes.extend(-2..=6);
+    let angles = around(&[i64::MIN, -MOST_ANGLE, 0, MOST_ANGLE, i64::MAX], 3);
+    let mut chance = Chance::new("axes_and_angles");
+    let directions: Vec<_> = (0..10).map(|_| direction(&mut chance)).collect();
+    let calls = directions.iter().flat_map(|[x, y, z]| {
+        let angles = &angles;
+        let of_axis = move |axis: &i64| {
+            let axis = *axis;
+            angles.iter().map(move |angle| [*x, *y, *z, axis, *angle])
+        };
+        axes.iter().flat_map(of_axis)
+    });
+    compare(&TURN, "axes and angles", calls, turn);
+}
+
+#[test]
+fn ends_of_acceptance() {
+    let middle: Whole = 1 << 60;
+    let ends = [middle - (1 << 32), middle + (1 << 32)];
+    // neither 2^60 − 2^32 nor one less is a sum of three squares: two less is the first past that end
+    let lengths = ends.into_iter().flat_map(|end| end - 8..=end + 8);
+    let mut directions: Vec<[i64; 3]> = lengths.filter_map(of_squared_length).collect();
+    for end in [ends[0] - 2, ends[0] + 1, ends[1], ends[1] + 1] {
+        assert!(
+            directions.iter().any(|parts| squares(*parts) == end),
+            "none at {end}"
+        );
+    }
+    // all parts multiples of 2^16
+    directions.push([1 << 30, 1 << 16, 0]);
+    let arranged = directions.iter().flat_map(|[x, y, z]| {
+        let orders = [[*x, *y, *z], [*y, *z, *x], [*z, *x, *y]];
+        orders
+            .into_iter()
+            .flat_map(|[x, y, z]| [[x, y, z], [-x, -y, z], [x, -y, -z]])
+    });
+    let mut chance = Chance::new("ends_of_acceptance");
+    let calls: Vec<[i64; 5]> = arranged
+        .flat_map(|[x, y, z]| (1..=3).map(move |axis| [x, y, z, axis, 0]))
+        .map(|[x, y, z, axis, _]| [x, y, z, axis, chance.within(-MOST_ANGLE, MOST_ANGLE)])
+        .collect();
+    compare(&TURN, "ends of acceptance", calls, turn);
+}
+
+/// Parts whose squares, or the sum of whose squares, pass 64 bits.
+#[test]
+fn parts_too_large() {
+    let sizes = [
+        0,
+        1,
+        1 << 30,
+        1 << 31,
+        3_037_000_500,
+        1 << 32,
+        1 << 62,
+        i64::MAX,
+    ];
+    let parts = around(
+        &[&sizes[..], &sizes.map(|size| -size), &[i64::MIN]].concat(),
+        1,
+    );
+    let calls = parts.iter().flat_map(|x| {
+        let parts = &parts;
+        let of_y = move |y: &i64| {
+            let y = *y;
+            parts.iter().map(move |z| [*x, y, *z, 3, 1])
+        };
+        parts.iter().flat_map(of_y)
+    });
+    compare(&TURN, "parts of any size", calls, turn);
+}
+
+/// n turns and the opposite turns in the other order come back within 32 n in each part.
+#[test]
+fn way_back() {
+    const CHAINS: usize = 50;
+    const MOST_TURNS: usize = 1000;
+    for turns in [1, 2, 3, 10, 100, MOST_TURNS] {
+        let mut chance = Chance::new(&format!("way_back {turns}"));
+        let accepted = |[x, y, z]: &[i64; 3]| turn([*x, *y, *z, 1, 0])[0] == 0;
+        let starts: Vec<[i64; 3]> = std::iter::repeat_with(|| direction(&mut chance))
+            .filter(accepted)
+            .take(CHAINS)
+            .collect();
+        let there: Vec<Vec<[i64; 2]>> = (0..turns)
+            .map(|_| {
+                let one = |_| [chance.within(1, 3), chance.within(-MOST_ANGLE, MOST_ANGLE)];
+                (0..CHAINS).map(one).collect()
+            })
+            .collect();
+        let opposite =
+            |step: &Vec<[i64; 2]>| step.iter().map(|[axis, angle]| [*axis, -angle]).collect();
+        let back = there.iter().rev().map(opposite);
+
+        let mut directions = starts.clone();
+        for step in there.iter().cloned().chain(back) {
+            directions = turned(&directions, &step);
+        }
+        let mut worst = 0;
+        for (start, end) in starts.iter().zip(&directions) {
+            for (from, to) in start.iter().zip(end) {
+                worst = worst.max((from - to).abs());
+                assert!(
+                    worst <= 32 * turns as i64,
+                    "{turns} turns and back: {start:?} came to {end:?}"
+                );
+            }
+        }
+        let line = format!("measured turbelicus_turn: {CHAINS} chains of {turns} turns and back, at most {worst} parts off");
+        writeln!(std::io::stdout(), "{line}").expect("standard output");
+    }
+}
+
+/// Every direction by its turn, as the module has it; none may be refused.
+fn turned(directions: &[[i64; 3]], turns: &[[i64; 2]]) -> Vec<[i64; 3]> {
+    let together =
+        |([x, y, z], [axis, angle]): (&[i64; 3], &[i64; 2])| [*x, *y, *z, *axis, *angle].into();
+    let mut calls: Vec<_> = directions.iter().zip(turns).map(together).collect();
+    let answers = TURN.answers(&mut calls);
+    let parts = |(index, [refused, x, y, z]): (usize, [i64; 4])| {
+        assert_eq!(refused, 0, "{:?} in a chain", calls[index].given);
+        [x, y, z]
+    };
+    answers.into_iter().enumerate().map(parts).collect()
+}

@@ -1,0 +1,7 @@
+/* C11 7.22, as far as it is used. */
+#ifndef STDLIB_H
+#define STDLIB_H
+#define EXIT_SUCCESS 0
+#define EXIT_FAILURE 1
+_Noreturn void exit(int status);
+#endif

@@ -1,0 +1,7 @@
+/* C11 7.24, as far as it is used. */
+#ifndef STRING_H
+#define STRING_H
+#include <stddef.h>
+void *memcpy(void *to, const void *from, size_t count);
+int strncmp(const char *left, const char *right, size_t count);
+#endif
