@@ -35,7 +35,8 @@ fn product_quotient([a, b, d]: [i64; 3]) -> [i64; 2] {
     let condition = (1..=MOST_PRODUCT_DIVISOR).contains(&d)
         && (-MOST_FACTOR..=MOST_FACTOR).contains(&a)
         && (-MOST_OTHER_FACTOR..=MOST_OTHER_FACTOR).contains(&b)
-        && product.abs() <= Whole::from(d) * MOST_QUOTIENT;
+        // keeps the answer below the most that it may be, without a product past 64 bits
+        && Whole::from(b).abs() <= MOST_QUOTIENT / (Whole::from(a).abs() / Whole::from(d) + 1);
     tried(condition, || rnd(product, d.into()))
 }
 
