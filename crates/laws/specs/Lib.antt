@@ -18,3 +18,5 @@ pub mod CircleLength
 pub mod CircleToHalf
 pub mod Angles
 pub mod Neighbours
+pub mod Turn3
+pub mod Return3
