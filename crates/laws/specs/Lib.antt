@@ -20,3 +20,5 @@ pub mod Angles
 pub mod Neighbours
 pub mod Turn3
 pub mod Return3
+pub mod Turning
+pub mod WayBack

@@ -100,7 +100,8 @@ image-ge p v h k =
 
 -- ---- what the two roundings leave over
 
-rest-le : (p : Pair) (v : Direction) → squares (minus (image p v) (times (pos unit) (turn3 p v))) ≤ roundings * roundings
+rest-le : (p : Pair) (v : Direction)
+    → squares (minus (image p v) (times (pos unit) (turn3 p v))) ≤ roundings * roundings
 unfolding squares squared turn3
 rest-le p v =
     small _ _ _
