@@ -22,3 +22,4 @@ pub mod Turn3
 pub mod Return3
 pub mod Turning
 pub mod WayBack
+pub mod Aberration

@@ -10,7 +10,7 @@ use lib.Dec.{lit<, lit≤}
 use lib.IntN.{ℤ, pos, natAbs, _+ℤ_, _-ℤ_, _*ℤ_, +ℤ-invr}
 use Rattle.integers.specs.Difference.{sub-is}
 use Rattle.integers.specs.Size.{abs-le, square-abs}
-use Rattle.integers.specs.Ring.{Term, ring, v0, v1, v2, v3, v4, v5, square, _⊕_, _⊖_, _⊗_}
+use Rattle.integers.specs.Ring.{ring, v0, v1, v2, v3, v4, v5, square, _⊕_, _⊖_, _⊗_}
 use Rattle.integers.specs.Square.{le-of-square-le, square-le-of-le, squaresOf-pos}
 use Rattle.rules.specs.declared.Pair.{Pair}
 use Rattle.rules.specs.declared.Direction.{Direction}
@@ -19,7 +19,7 @@ use Rattle.rules.specs.Length.{square as squared, squares, pairSquares, root, t
 use Rattle.rules.specs.Turning.{Accepted, turn3}
 use Rattle.laws.specs.Rounding.{rnd-near}
 use Rattle.laws.specs.Root.{root-root, root-le}
-use Rattle.laws.specs.Directions.{PartsLe, plus, minus, times, plus-le, times-le, le-of-times-le, minus-swap}
+use Rattle.laws.specs.Directions.{plus, minus, times, plus-le, times-le, le-of-times-le, minus-swap}
 use Rattle.laws.specs.Directions.{le-of-parts-eq, le-of-minus-le, accepted-le}
 use Rattle.laws.specs.Length.{toLength-near, toLength-accepted}
 

@@ -5,18 +5,19 @@ use mathlib.Core.Bool.{Bool, true, false, not, cond, _&&_}
 use Prim.Native.Nat.{ℕ, _+_, _*_, _≤_, _<_, _^_}
 use native.Mathlib.Omega.{arith}
 use lib.Dec.{T, leb}
-use lib.IntN.{ℤ}
+use lib.IntN.{ℤ, negℤ}
 use borrow.Author.Tests.{le-leb, leb-true, ne-eqb}
 use Rattle.rules.specs.declared.Pair.{Pair}
 use Rattle.rules.specs.declared.Direction.{Direction}
 use Rattle.rules.specs.declared.Turned.{Turned}
-use Rattle.rules.specs.Units.{unit, +_, same}
+use Rattle.rules.specs.Units.{+_, same}
 use Rattle.rules.specs.Length.{square, squares, pairSquares, partTo, root, toLength, lengthRefused, broughtToLength}
 use Rattle.rules.specs.Turning.{Accepted, turn3, exchanged, turn1, turn2, turnAbout, turnBy, turn, directionRefused}
 use Rattle.rules.specs.Turning.{turnRefused, turned}
 use Rattle.rules.specs.Circle.{pair}
 use Rattle.laws.specs.Root.{root-le}
 use Rattle.laws.specs.Directions.{minus}
+use Rattle.laws.specs.Angles.{pair-length, pair-opposite}
 use Rattle.laws.specs.Turn3.{shortTurn, longTurn, turn3-le, turn3-root-ge, turn3-accepted}
 use Rattle.laws.specs.Return3.{oppositePair, farthest, turn3-back}
 
@@ -158,11 +159,23 @@ accepted-of-not-refused v e =
       high = leb-true (squares v) (2 ^ 60 + 2 ^ 32) (h .1);
     }
 
--- ---- the answer of an accepted turn of an accepted direction
+-- ---- by the angle's own pair
 
-pub turned-accepted : (axis angle : ℤ) (v : Direction) → Accepted (pairSquares (pair angle)) → Accepted (squares v)
-    → turnRefused axis angle ≡ false
+pub turn-accepted : (axis angle : ℤ) (v : Direction) → Accepted (squares v) → Accepted (squares (turn axis angle v))
+unfolding turn
+turn-accepted axis angle v h = turnBy-accepted axis (pair angle) v (pair-length angle) h
+
+-- an accepted turn of an accepted direction is answered
+pub turned-accepted : (axis angle : ℤ) (v : Direction) → Accepted (squares v) → turnRefused axis angle ≡ false
     → turned axis angle v ≡ Turned.To (turn axis angle v)
 unfolding turned turn turnBy broughtToLength
-turned-accepted axis angle v hp hv e =
-    rw (accepted-not-refused v hv, e, turnAbout-not-refused axis (pair angle) v hp hv)
+turned-accepted axis angle v h e =
+    rw (accepted-not-refused v h, e, turnAbout-not-refused axis (pair angle) v (pair-length angle) h)
+
+-- the opposite turn of what lies within A of the turned direction lies within A + 24 of the direction
+pub turn-back : (axis angle : ℤ) (v u : Direction) (A : ℕ) → Accepted (squares v) → Accepted (squares u) → A ≤ farthest
+    → squares (minus u (turn axis angle v)) ≤ A * A
+    → squares (minus (turn axis (negℤ angle) u) v) ≤ (A + 24) * (A + 24)
+unfolding turn turnBy
+turn-back axis angle v u A hv hu small near =
+    rw (pair-opposite angle) (kept axis .back (pair angle) v u A (pair-length angle) hv hu small near)

@@ -13,14 +13,12 @@ use Rattle.integers.specs.Square.{square-le-of-le}
 use Rattle.rules.specs.declared.Direction.{Direction}
 use Rattle.rules.specs.declared.Turned.{Turned}
 use Rattle.rules.specs.Units.{circle, +_, −_, between}
-use Rattle.rules.specs.Length.{square, squares, pairSquares}
-use Rattle.rules.specs.Circle.{pair}
-use Rattle.rules.specs.Turning.{Accepted, turnBy, turn, turnRefused, turned}
-use Rattle.rules.specs.Chain.{Turn, AcceptedTurn, AcceptedTurns, none, more, opposite, wayBack, turnedNext, turnedBy}
+use Rattle.rules.specs.Length.{square, squares}
+use Rattle.rules.specs.Turning.{Accepted, turn, turnRefused}
+use Rattle.rules.specs.Chain.{Turn, AcceptedTurn, AcceptedTurns, none, more, opposite, wayBack, turnedBy}
 use Rattle.rules.specs.Chain.{Answers, Within}
 use Rattle.laws.specs.Directions.{minus, parts-le}
-use Rattle.laws.specs.Return3.{oppositePair, farthest}
-use Rattle.laws.specs.Turning.{kept, turnBy-accepted, turned-accepted}
+use Rattle.laws.specs.Turning.{turn-accepted, turned-accepted, turn-back}
 
 -- ---- accepted lists
 
@@ -94,65 +92,52 @@ at-nought : (v : Direction) (n : ℕ) → squares (minus v v) ≤ n
 unfolding squares square
 at-nought v n = rw (+ℤ-invr (v .x), +ℤ-invr (v .y), +ℤ-invr (v .z)) (omega arith)
 
--- so many turns that the distance stays below `farthest`
+-- so many turns that the distance stays below the farthest from which a turn leads back
 abbrev pub mostTurns : ℕ
 mostTurns = 11184811
 
-module _ (pair-length : (a : ℤ) → Accepted (pairSquares (pair a)))
-    (pair-opposite : (a : ℤ) → pair (negℤ a) ≡ oppositePair (pair a)) where
-  pub turn-accepted : (axis angle : ℤ) (v : Direction) → Accepted (squares v) → Accepted (squares (turn axis angle v))
-  unfolding turn
-  turn-accepted axis angle v h = turnBy-accepted axis (pair angle) v (pair-length angle) h
+turns-accepted : (ts : List Turn) (v : Direction) → Accepted (squares v) → Accepted (squares (turns ts v))
+turns-accepted [] v h = h
+turns-accepted (t ∷ ts) v h = turns-accepted ts (turn (t .axis) (t .angle) v) (turn-accepted (t .axis) (t .angle) v h)
 
-  turns-accepted : (ts : List Turn) (v : Direction) → Accepted (squares v) → Accepted (squares (turns ts v))
-  turns-accepted [] v h = h
-  turns-accepted (t ∷ ts) v h = turns-accepted ts (turn (t .axis) (t .angle) v) (turn-accepted (t .axis) (t .angle) v h)
+turnedBy-is : (ts : List Turn) → AcceptedTurns ts → (v : Direction) → Accepted (squares v)
+    → turnedBy ts (Turned.To v) ≡ Turned.To (turns ts v)
+turnedBy-is [] none v h = refl
+turnedBy-is (t ∷ ts) (more k ks) v h =
+    ap (turnedBy ts) (turned-accepted (t .axis) (t .angle) v h k)
+    ∙ turnedBy-is ts ks (turn (t .axis) (t .angle) v) (turn-accepted (t .axis) (t .angle) v h)
 
-  turnedBy-is : (ts : List Turn) → AcceptedTurns ts → (v : Direction) → Accepted (squares v)
-      → turnedBy ts (Turned.To v) ≡ Turned.To (turns ts v)
-  turnedBy-is [] none v h = refl
-  turnedBy-is (t ∷ ts) (more k ks) v h =
-      ap (turnedBy ts) (turned-accepted (t .axis) (t .angle) v (pair-length (t .angle)) h k)
-      ∙ turnedBy-is ts ks (turn (t .axis) (t .angle) v) (turn-accepted (t .axis) (t .angle) v h)
+-- no turn of a list is refused, and what the last one answers is accepted
+pub turnedBy-accepted : (ts : List Turn) → AcceptedTurns ts → (v : Direction) → Accepted (squares v)
+    → Answers (λ w. Accepted (squares w)) (turnedBy ts (Turned.To v))
+turnedBy-accepted ts ks v h =
+    record { direction = turns ts v; answer = turnedBy-is ts ks v h; holds = turns-accepted ts v h }
 
-  -- no turn of a list is refused, and what the last one answers is accepted
-  pub turnedBy-accepted : (ts : List Turn) → AcceptedTurns ts → (v : Direction) → Accepted (squares v)
-      → Answers (λ w. Accepted (squares w)) (turnedBy ts (Turned.To v))
-  turnedBy-accepted ts ks v h =
-      record { direction = turns ts v; answer = turnedBy-is ts ks v h; holds = turns-accepted ts v h }
+returned-le : (ts : List Turn) → length ts ≤ mostTurns → (v : Direction) → Accepted (squares v)
+    → squares (minus (turns (wayBack ts) (turns ts v)) v) ≤ (24 * length ts) * (24 * length ts)
+returned-le [] l v h = at-nought v (24 * 0 * (24 * 0))
+returned-le (t ∷ ts) l v h =
+    let w = turn (t .axis) (t .angle) v in
+    let hw = turn-accepted (t .axis) (t .angle) v h in
+    let m = turns ts w in
+    let u = turns (wayBack ts) m in
+    let hu = turns-accepted (wayBack ts) m (turns-accepted ts w hw) in
+    let e : turns (wayBack (t ∷ ts)) m ≡ turn (t .axis) (negℤ (t .angle)) u =
+    ap (λ l. turns l m) (wayBack-cons t ts) ∙ turns-append (wayBack ts) (opposite t ∷ []) m in
+    subst (λ r. squares (minus r v) ≤ (24 * suc (length ts)) * (24 * suc (length ts))) (sym e)
+    (square-le-of-le (24 * length ts + 24) (24 * suc (length ts))
+    (turn-back (t .axis) (t .angle) v u (24 * length ts) h hu (omega arith)
+    (returned-le ts (omega arith) w hw)) (omega arith))
 
-  turn-back : (t : Turn) (v u : Direction) (A : ℕ) → Accepted (squares v) → Accepted (squares u) → A ≤ farthest
-      → squares (minus u (turn (t .axis) (t .angle) v)) ≤ A * A
-      → squares (minus (turn (t .axis) (negℤ (t .angle)) u) v) ≤ (A + 24) * (A + 24)
-  unfolding turn turnBy
-  turn-back t v u A hv hu small near =
-      rw (pair-opposite (t .angle))
-      (kept (t .axis) .back (pair (t .angle)) v u A (pair-length (t .angle)) hv hu small near)
-
-  returned-le : (ts : List Turn) → length ts ≤ mostTurns → (v : Direction) → Accepted (squares v)
-      → squares (minus (turns (wayBack ts) (turns ts v)) v) ≤ (24 * length ts) * (24 * length ts)
-  returned-le [] l v h = at-nought v (24 * 0 * (24 * 0))
-  returned-le (t ∷ ts) l v h =
-      let w = turn (t .axis) (t .angle) v in
-      let hw = turn-accepted (t .axis) (t .angle) v h in
-      let m = turns ts w in
-      let u = turns (wayBack ts) m in
-      let hu = turns-accepted (wayBack ts) m (turns-accepted ts w hw) in
-      let e : turns (wayBack (t ∷ ts)) m ≡ turn (t .axis) (negℤ (t .angle)) u =
-      ap (λ l. turns l m) (wayBack-cons t ts) ∙ turns-append (wayBack ts) (opposite t ∷ []) m in
-      subst (λ r. squares (minus r v) ≤ (24 * suc (length ts)) * (24 * suc (length ts))) (sym e)
-      (square-le-of-le (24 * length ts + 24) (24 * suc (length ts))
-      (turn-back t v u (24 * length ts) h hu (omega arith) (returned-le ts (omega arith) w hw)) (omega arith))
-
-  -- there and back: each component within 24 for each turn
-  pub wayBack-near : (ts : List Turn) → AcceptedTurns ts → length ts ≤ mostTurns
-      → (v : Direction) → Accepted (squares v)
-      → Answers (λ w. Within (24 * length ts) w v) (turnedBy (ts ++ wayBack ts) (Turned.To v))
-  wayBack-near ts ks l v h =
-      let n = parts-le (minus (turns (wayBack ts) (turns ts v)) v) (24 * length ts) (returned-le ts l v h) in
-      record {
-        direction = turns (wayBack ts) (turns ts v);
-        answer = turnedBy-is (ts ++ wayBack ts) (append-accepted ts ks (wayBack-accepted ts ks)) v h
-            ∙ ap Turned.To (turns-append ts (wayBack ts) v);
-        holds = record { x = n .x; y = n .y; z = n .z };
-      }
+-- there and back: each component within 24 for each turn
+pub wayBack-near : (ts : List Turn) → AcceptedTurns ts → length ts ≤ mostTurns
+    → (v : Direction) → Accepted (squares v)
+    → Answers (λ w. Within (24 * length ts) w v) (turnedBy (ts ++ wayBack ts) (Turned.To v))
+wayBack-near ts ks l v h =
+    let n = parts-le (minus (turns (wayBack ts) (turns ts v)) v) (24 * length ts) (returned-le ts l v h) in
+    record {
+      direction = turns (wayBack ts) (turns ts v);
+      answer = turnedBy-is (ts ++ wayBack ts) (append-accepted ts ks (wayBack-accepted ts ks)) v h
+          ∙ ap Turned.To (turns-append ts (wayBack ts) v);
+      holds = record { x = n .x; y = n .y; z = n .z };
+    }
