@@ -159,6 +159,19 @@ accepted-of-not-refused v e =
       high = leb-true (squares v) (2 ^ 60 + 2 ^ 32) (h .1);
     }
 
+-- a test that says whether the squared length is accepted is the opposite of the refusal
+pub accepted-test : (v : Direction) (b : Bool) → (b ≡ true → Accepted (squares v)) → (Accepted (squares v) → b ≡ true)
+    → b ≡ not (directionRefused v)
+accepted-test v b f g = by b (directionRefused v) f g (accepted-of-not-refused v) (accepted-not-refused v)
+  where
+    by : (b r : Bool) → (b ≡ true → Accepted (squares v)) → (Accepted (squares v) → b ≡ true)
+        → (r ≡ false → Accepted (squares v)) → (Accepted (squares v) → r ≡ false)
+        → b ≡ not r
+    by true true f g h k = k (f refl)
+    by true false f g h k = refl
+    by false true f g h k = refl
+    by false false f g h k = g (h refl)
+
 -- ---- by the angle's own pair
 
 pub turn-accepted : (axis angle : ℤ) (v : Direction) → Accepted (squares v) → Accepted (squares (turn axis angle v))

@@ -1,4 +1,4 @@
--- Demand 3: of an accepted direction and a list of up to 1,000 accepted turns, no turn refuses and every length is kept,
+-- Demand 3: of an accepted direction and a list of up to 1,000 accepted turns, no turn refuses, every length is kept,
 -- and the opposite turns in reverse order lead back. A turn is `turned` of the rules, with its refusals.
 use mathlib.Core.List.{List, _++_}
 use Prim.Native.Nat.{ℕ, _*_, _≤_}
