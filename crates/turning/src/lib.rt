@@ -7,13 +7,12 @@ use rules::Turned;
 ghost use mathlib.Core.Path.{_≡_};
 ghost use mathlib.Core.Bool.{not};
 ghost use Prim.Native.Nat.{_<_, _^_};
-ghost use lib.IntN.{pos, natAbs};
-ghost use Rattle.rules.specs.Length.{squares, partTo, root, toLength, broughtToLength};
-ghost use Rattle.rules.specs.Turning.{directionRefused, turn3, exchanged, turnAbout, turnBy};
-ghost use Rattle.turning.specs.Given.{PartFits, HasLength, TurnFits};
+ghost use Rattle.rules.specs.Length.{squares, broughtToLength};
+ghost use Rattle.rules.specs.Turning.{directionRefused, turnRefused, turnBy, turned};
+ghost use Rattle.turning.specs.Given.{TurnFits};
 
-// 2^30: the length of a direction.
-const UNIT: i64 = 1073741824;
+mod axes;
+mod length;
 
 // No part of an accepted direction is larger: the square of 2^30 + 2 is above 2^60 + 2^32.
 const REACH: i64 = 1073741825;
@@ -22,6 +21,9 @@ const REACH: i64 = 1073741825;
 const LEAST: i64 = 1152921500311879680;
 
 const MOST: i64 = 1152921508901814272;
+
+// C: the circle, in µas.
+const CIRCLE: i64 = 1296000000000;
 
 // Whether v is accepted: its squared length is within 2^32 of 2^60, both ends included.
 //
@@ -41,106 +43,63 @@ pub fn accepted(v: Direction) -> bool
     if !whole::is_between(-REACH, REACH, v.z) {
         return false;
     }
-    whole::is_between(LEAST, MOST, squares_sum(v))
+    whole::is_between(LEAST, MOST, length::squares_sum(v))
 }
 
 // v brought to the length 2^30.
 //
 // Given: v, whose squares' sum is below 2^63.
-// Returned: Rnd(part * 2^30 / L) of each, L the whole root of the sum; refused 13 where L is nought.
+// Returned: Rnd(part * 2^30 / L) of each, L the whole root of the sum; refused 13 if L is nought.
 // Rule: 01, "The three are then brought to length".
 pub fn to_length(v: Direction) -> Turned
     requires { ⌜ squares v < 2 ^ 63 ⌝ }
     ensures { λ r. ⌜ r ≡ broughtToLength v ⌝ }
 {
-    let l = length_of(v);
+    let l = length::length_of(v);
     if l == 0 {
         return Turned::Refused(Refusal::Length);
     }
-    Turned::To(parts_to(v, l))
+    Turned::To(length::parts_to(v, l))
 }
 
 // v turned about an axis, with the angle's pair at hand, and brought to length.
 //
-// Given: v and p, accepted; axis 1 or 2, or any other for 3.
+// Given: v and p, accepted; axis 1 or 2, and any other number for 3.
 // Returned: an accepted direction.
 // Rule: 01, "Turns, readings, place".
 pub fn turn_by(v: Direction, axis: i64, p: Pair) -> Direction
     requires { ⌜ TurnFits v p ⌝ }
     ensures { λ r. ⌜ r ≡ turnBy axis p v ⌝ }
 {
-    let w = turn_about(v, axis, p);
-    parts_to(w, length_of(w))
+    let w = axes::turn_about(v, axis, p);
+    length::parts_to(w, length::length_of(w))
 }
 
-// The squares' sum.
-fn squares_sum(v: Direction) -> i64
-    requires { ⌜ squares v < 2 ^ 63 ⌝ }
-    ensures { λ r. ⌜ r ≡ pos (squares v) ⌝ }
+// v turned about an axis by an angle, and brought to length.
+//
+// Given: v, axis and angle (in µas), any.
+// Returned: an accepted direction; refused 7 where v is not accepted, 8 where axis or angle is not.
+// Rule: 01, "Turns, readings, place".
+//
+// Refusal 13 never comes: the length of what is turned is within 5 of 2^30.
+pub fn turn(v: Direction, axis: i64, angle: i64) -> Turned
+    ensures { λ r. ⌜ r ≡ turned axis angle v ⌝ }
 {
-    v.x * v.x + v.y * v.y + v.z * v.z
-}
-
-// L: the whole root of the squares' sum.
-fn length_of(v: Direction) -> i64
-    requires { ⌜ squares v < 2 ^ 63 ⌝ }
-    ensures { λ r. ⌜ r ≡ pos (root (squares v)) ⌝ }
-{
-    whole::whole_root(squares_sum(v))
-}
-
-// Each part becomes Rnd(part * 2^30 / L).
-fn parts_to(v: Direction, l: i64) -> Direction
-    requires { ⌜ HasLength v l ⌝ }
-    ensures { λ r. ⌜ r ≡ toLength v ⌝ }
-{
-    Direction {
-        x: part_to(v.x, l),
-        y: part_to(v.y, l),
-        z: part_to(v.z, l),
+    if !accepted(v) {
+        return Turned::Refused(Refusal::Direction);
     }
+    if !is_turn(axis, angle) {
+        return Turned::Refused(Refusal::Turn);
+    }
+    Turned::To(turn_by(v, axis, circle::pair(angle)))
 }
 
-fn part_to(part: i64, l: i64) -> i64
-    requires { ⌜ PartFits part l ⌝ }
-    ensures { λ r. ⌜ r ≡ partTo (natAbs l) part ⌝ }
+// Whether axis is 1 to 3, and angle strictly between -C and C.
+fn is_turn(axis: i64, angle: i64) -> bool
+    ensures { λ r. ⌜ r ≡ not (turnRefused axis angle) ⌝ }
 {
-    whole::rnd_quotient(part * UNIT, l)
-}
-
-// The cyclic exchange takes the axis to the third place, and back again after the turn.
-fn turn_about(v: Direction, axis: i64, p: Pair) -> Direction
-    requires { ⌜ TurnFits v p ⌝ }
-    ensures { λ r. ⌜ r ≡ turnAbout axis p v ⌝ }
-{
-    if axis == 1 {
-        return exchange(exchange(turn_3(exchange(v), p)));
+    if !whole::is_between(1, 3, axis) {
+        return false;
     }
-    if axis == 2 {
-        return exchange(turn_3(exchange(exchange(v)), p));
-    }
-    turn_3(v, p)
-}
-
-// x goes towards y, and z stays.
-fn turn_3(v: Direction, p: Pair) -> Direction
-    requires { ⌜ TurnFits v p ⌝ }
-    ensures { λ r. ⌜ r ≡ turn3 p v ⌝ }
-{
-    Direction {
-        x: whole::rnd_quotient(p.cosine * v.x - p.sine * v.y, UNIT),
-        y: whole::rnd_quotient(p.sine * v.x + p.cosine * v.y, UNIT),
-        z: v.z,
-    }
-}
-
-// Each axis is named by the next.
-fn exchange(v: Direction) -> Direction
-    ensures { λ r. ⌜ r ≡ exchanged v ⌝ }
-{
-    Direction {
-        x: v.y,
-        y: v.z,
-        z: v.x,
-    }
+    -CIRCLE < angle && angle < CIRCLE
 }

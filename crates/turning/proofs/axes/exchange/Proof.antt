@@ -1,11 +1,11 @@
--- `turning::exchange` meets its contract.
+-- `turning::axes::exchange` meets its contract.
 use mathlib.Core.Path.{_≡_}
 use borrow.Author.Needs.{needs}
 use mir.Syntax.{w64}
 use mir.Val.{toZ, ofZ}
 use Rattle.rules.specs.Turning.{exchanged}
-use Rattle.turning.proofs.exchange.Statement.{statement}
-use Rattle.turning.proofs.exchange.Tie as tie
+use Rattle.turning.proofs.axes.exchange.Statement.{statement}
+use Rattle.turning.proofs.axes.exchange.Tie as tie
 
 x-held : (c : tie.After-struct-told) → toZ w64 (ofZ w64 (c .before .args .v .x)) ≡ c .before .args .v .x
 x-held c = search needs

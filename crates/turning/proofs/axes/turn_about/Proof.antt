@@ -1,4 +1,4 @@
--- `turning::turn_about` meets its contract: the branch taken is that of the axis.
+-- `turning::axes::turn_about` meets its contract: the branch taken is that of the axis.
 use mathlib.Core.Path.{_≡_, refl, ap, sym, _∙_}
 use mathlib.Core.Bool.{Bool, true, false}
 use borrow.Author.Needs.{needs}
@@ -13,8 +13,8 @@ use Rattle.rules.specs.Turning.{exchanged, turn1, turn2, turnAbout}
 use Rattle.laws.specs.Units.{same-eq, same-self}
 use Rattle.laws.specs.Turning.{exchanged-squares}
 use Rattle.turning.specs.Given.{TurnFits}
-use Rattle.turning.proofs.turn_about.Statement.{statement}
-use Rattle.turning.proofs.turn_about.Tie as tie
+use Rattle.turning.proofs.axes.turn_about.Statement.{statement}
+use Rattle.turning.proofs.axes.turn_about.Tie as tie
 
 -- ---- the axis
 

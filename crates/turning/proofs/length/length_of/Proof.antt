@@ -1,4 +1,4 @@
--- `turning::length_of` meets its contract.
+-- `turning::length::length_of` meets its contract.
 use mathlib.Core.Path.{_≡_, _∙_}
 use borrow.Author.Needs.{needs}
 use native.Mathlib.Omega.{arith}
@@ -8,8 +8,8 @@ use mir.Syntax.{w64}
 use mir.Val.{toZ, ofZ}
 use Rattle.rules.specs.Length.{squares}
 use Rattle.words.specs.Fits.{held64}
-use Rattle.turning.proofs.length_of.Statement.{statement}
-use Rattle.turning.proofs.length_of.Tie as tie
+use Rattle.turning.proofs.length.length_of.Statement.{statement}
+use Rattle.turning.proofs.length.length_of.Tie as tie
 
 squares-sum-requires : tie.Need-squares-sum-requires
 squares-sum-requires c κs = search needs

@@ -1,4 +1,4 @@
--- `turning::part_to` meets its contract.
+-- `turning::length::part_to` meets its contract.
 use Prim.Native.Nat.{_*_, _^_}
 use mathlib.Core.Path.{_∙_}
 use native.Mathlib.Omega.{arith}
@@ -7,8 +7,8 @@ use Rattle.rules.specs.Units.{unit}
 use Rattle.rules.specs.Length.{partTo}
 use Rattle.words.specs.Fits.{held64}
 use Rattle.words.specs.Holds.{Holds, bits, _*ʷ_, arg, lit, mul, mul-ok}
-use Rattle.turning.proofs.part_to.Statement.{statement}
-use Rattle.turning.proofs.part_to.Tie as tie
+use Rattle.turning.proofs.length.part_to.Statement.{statement}
+use Rattle.turning.proofs.length.part_to.Tie as tie
 
 part-holds : (c : tie.Start) → Holds (bits (c .args .part)) (c .args .part) (2 ^ 32)
 part-holds c = arg (c .args .part) (c .pre .part-le) tt

@@ -1,4 +1,4 @@
--- `turning::turn_3` meets its contract: no part passes 2^30 + 1, so that every product and sum fits.
+-- `turning::axes::turn_3` meets its contract: no part passes 2^30 + 1, so that every product and sum fits.
 use Prim.Native.Nat.{ℕ, _+_, _*_}
 use mathlib.Core.Path.{_∙_}
 use native.Mathlib.Omega.{arith}
@@ -11,8 +11,8 @@ use Rattle.rules.specs.Turning.{turn3}
 use Rattle.laws.specs.Directions.{part-le, accepted-parts}
 use Rattle.words.specs.Fits.{held64}
 use Rattle.words.specs.Holds.{Holds, bits, _*ʷ_, arg, add, add-ok, sub, sub-ok, mul, mul-ok}
-use Rattle.turning.proofs.turn_3.Statement.{statement}
-use Rattle.turning.proofs.turn_3.Tie as tie
+use Rattle.turning.proofs.axes.turn_3.Statement.{statement}
+use Rattle.turning.proofs.axes.turn_3.Tie as tie
 
 -- the most that a part, and that a product of two, can be
 abbrev most : ℕ

@@ -1,4 +1,4 @@
--- `turning::squares_sum` meets its contract: each square, and each sum of squares, is at most the whole sum.
+-- `turning::length::squares_sum` meets its contract: each square, and each sum of squares, is at most the whole sum.
 use Prim.Native.Nat.{ℕ, _*_, _-_, _≤_, _<_, _^_}
 use mathlib.Core.Path.{_∙_}
 use native.Mathlib.Omega.{arith}
@@ -7,8 +7,8 @@ use Rattle.integers.specs.Size.{square-abs}
 use Rattle.integers.specs.Square.{le-of-square-le, squaresOf-pos}
 use Rattle.rules.specs.Length.{square, squares}
 use Rattle.words.specs.Holds.{Holds, bits, _+ʷ_, _*ʷ_, arg, add-to, add-to-ok, mul-to, mul-to-ok}
-use Rattle.turning.proofs.squares_sum.Statement.{statement}
-use Rattle.turning.proofs.squares_sum.Tie as tie
+use Rattle.turning.proofs.length.squares_sum.Statement.{statement}
+use Rattle.turning.proofs.length.squares_sum.Tie as tie
 
 -- the most that the sum can be
 abbrev most : ℕ

@@ -1,4 +1,4 @@
--- `turning::parts_to` meets its contract.
+-- `turning::length::parts_to` meets its contract.
 use Prim.Native.Nat.{_≤_, _^_}
 use mathlib.Core.Path.{_∙_}
 use native.Mathlib.Omega.{arith}
@@ -11,8 +11,8 @@ use Rattle.laws.specs.Directions.{PartsLe, parts-le}
 use Rattle.words.specs.Fits.{held64}
 use Rattle.words.specs.Holds.{Holds, bits, arg, got}
 use Rattle.turning.specs.Given.{PartFits}
-use Rattle.turning.proofs.parts_to.Statement.{statement}
-use Rattle.turning.proofs.parts_to.Tie as tie
+use Rattle.turning.proofs.length.parts_to.Statement.{statement}
+use Rattle.turning.proofs.length.parts_to.Tie as tie
 
 module _ (c : tie.Start) where
   abbrev v : Direction
