@@ -5,3 +5,6 @@ pub mod Rounding
 pub mod Product
 pub mod Root
 pub mod Modulo
+pub mod Directions
+pub mod LengthNear
+pub mod Length
