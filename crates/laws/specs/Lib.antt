@@ -8,3 +8,8 @@ pub mod Modulo
 pub mod Directions
 pub mod LengthNear
 pub mod Length
+pub mod Near
+pub mod Chain
+pub mod Series
+pub mod Circle
+pub mod Folding
