@@ -13,3 +13,7 @@ pub mod Chain
 pub mod Series
 pub mod Circle
 pub mod Folding
+pub mod CircleLength
+pub mod CircleToHalf
+pub mod Angles
+pub mod Neighbours
