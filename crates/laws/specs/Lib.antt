@@ -17,3 +17,5 @@ pub mod CircleLength
 pub mod CircleToHalf
 pub mod Angles
 pub mod Neighbours
+pub mod Instant
+pub mod Polynomials
