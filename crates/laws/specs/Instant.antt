@@ -1,12 +1,14 @@
 -- Refusal 12: every angle of an instant is refused exactly when the instant is outside −Q to Q, and else given.
-use mathlib.Core.Path.{_≡_, refl, sym, ap, _∙_}
+use mathlib.Core.Path.{_≡_, refl, sym, ap, subst, _∙_}
 use mathlib.Core.Logic.{_↔_}
-use mathlib.Core.Bool.{Bool, true, false, not, _&&_, cond}
-use Prim.Native.Nat.{ℕ, _-_, _≤_, _<_}
+use mathlib.Core.Bool.{Bool, true, false, not, cond}
+use Prim.Native.Nat.{ℕ, _≤_, _<_}
+use native.Mathlib.Nat.{lt-of-not-le}
+use native.Mathlib.Decide.{decLt}
 use native.Mathlib.Omega.{arith}
-use lib.Dec.{ltb}
-use borrow.Author.Tests.{ltb-true, ltb-false, lt-ltb, le-ltb}
-use lib.IntN.{ℤ, pos, negsuc, natAbs}
+use lib.Dec.{T}
+use borrow.Author.Tests.{not-false}
+use lib.IntN.{ℤ, natAbs}
 use Rattle.rules.specs.declared.Tt.{Tt}
 use Rattle.rules.specs.declared.Ut.{Ut}
 use Rattle.rules.specs.declared.Refusal.{Refusal}
@@ -14,12 +16,13 @@ use Rattle.rules.specs.declared.Angle.{Angle}
 use Rattle.rules.specs.declared.Precessed.{Precessed}
 use Rattle.rules.specs.declared.Argued.{Argued}
 use Rattle.rules.specs.declared.Nutated.{Nutated}
-use Rattle.rules.specs.Units.{century, between, within}
+use Rattle.rules.specs.Units.{century, within}
 use Rattle.rules.specs.Polynomials.{instantRefused, angleAt, precession, precessionAt, obliquity, obliquityAt}
 use Rattle.rules.specs.Polynomials.{arguments, argumentsAt}
 use Rattle.rules.specs.Nutation.{nutation, nutationAt}
 use Rattle.rules.specs.Sun.{sunLongitude, sunLongitudeAt}
 use Rattle.rules.specs.Sidereal.{sidereal, siderealAt}
+use Rattle.laws.specs.Units.{within-le, within-of}
 
 -- an instant from −Q to Q
 abbrev pub InRange : ℤ → Type 0
@@ -27,30 +30,27 @@ InRange t = natAbs t ≤ century
 
 -- ---- the test
 
-refused-is : (t : ℤ) → instantRefused t ≡ ltb century (natAbs t)
-unfolding instantRefused within between
-refused-is (pos n) = in-second (ltb century n)
-  where
-    in-second : (b : Bool) → not (true && not b) ≡ b
-    in-second true = refl
-    in-second false = refl
-refused-is (negsuc n) = in-first (ltb (century - 1) n) refl
-  where
-    in-first : (b : Bool) → ltb (century - 1) n ≡ b → not (not b && true) ≡ ltb century (natAbs (negsuc n))
-    in-first true e = sym (lt-ltb century (natAbs (negsuc n)) (omega (arith, ltb-true (century - 1) n e)))
-    in-first false e = sym (le-ltb century (natAbs (negsuc n)) (omega (arith, ltb-false (century - 1) n e)))
-
 pub in-range : (t : ℤ) → instantRefused t ≡ false → InRange t
-in-range t e = ltb-false century (natAbs t) (sym (refused-is t) ∙ e)
-
-pub out-of-range : (t : ℤ) → instantRefused t ≡ true → century < natAbs t
-out-of-range t e = ltb-true century (natAbs t) (sym (refused-is t) ∙ e)
+unfolding instantRefused
+in-range t e = within-le century t (not-false (within century t) e)
 
 pub accepted-of-in-range : (t : ℤ) → InRange t → instantRefused t ≡ false
-accepted-of-in-range t h = refused-is t ∙ le-ltb century (natAbs t) h
+unfolding instantRefused
+accepted-of-in-range t h = ap not (within-of century t h)
 
 pub refused-of-out-of-range : (t : ℤ) → century < natAbs t → instantRefused t ≡ true
-refused-of-out-of-range t h = refused-is t ∙ lt-ltb century (natAbs t) h
+refused-of-out-of-range t h = by (instantRefused t) (in-range t)
+  where
+    by : (b : Bool) → (b ≡ false → InRange t) → b ≡ true
+    by true f = refl
+    by false f = absurd (omega (arith, f refl))
+
+pub out-of-range : (t : ℤ) → instantRefused t ≡ true → century < natAbs t
+out-of-range t e = by (decLt century (natAbs t))
+  where
+    by : Dec (century < natAbs t) → century < natAbs t
+    by (yes h) = h
+    by (no h) = absurd (subst T (sym e ∙ accepted-of-in-range t (omega (arith, lt-of-not-le h))) tt)
 
 -- ---- the answers
 

@@ -82,7 +82,7 @@ polynomial-near cs t h ht =
 -- ---- sizes
 
 -- the coefficients' sizes, summed
-unfoldable pub sizes : List ℤ → ℕ
+abbrev pub sizes : List ℤ → ℕ
 sizes [] = 0
 sizes (c ∷ cs) = natAbs c + sizes cs
 
@@ -96,7 +96,7 @@ step-le t p c a ht hp =
     )
 
 pub polynomial-le : (cs : List ℤ) (t : ℤ) → InRange t → natAbs (polynomial cs t) ≤ sizes cs
-unfolding polynomial sizes
+unfolding polynomial
 polynomial-le [] t ht = omega arith
 polynomial-le (c ∷ []) t ht = omega arith
 polynomial-le (c ∷ d ∷ ds) t ht =
