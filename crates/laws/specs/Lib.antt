@@ -19,3 +19,6 @@ pub mod Angles
 pub mod Neighbours
 pub mod Instant
 pub mod Polynomials
+pub mod Nutation
+pub mod Sun
+pub mod Sidereal
