@@ -23,3 +23,8 @@ pub mod Return3
 pub mod Turning
 pub mod WayBack
 pub mod Aberration
+pub mod Instant
+pub mod Polynomials
+pub mod Nutation
+pub mod Sun
+pub mod Sidereal

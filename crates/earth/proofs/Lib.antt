@@ -1,0 +1,2 @@
+-- What the proofs of `earth` share.
+pub mod Held

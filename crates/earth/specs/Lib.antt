@@ -1,0 +1,2 @@
+-- What the requires clauses of `earth` cite.
+pub mod Fits
