@@ -28,3 +28,5 @@ pub mod Polynomials
 pub mod Nutation
 pub mod Sun
 pub mod Sidereal
+pub mod Night
+pub mod Place
