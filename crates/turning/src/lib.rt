@@ -7,9 +7,9 @@ use rules::Turned;
 ghost use mathlib.Core.Path.{_≡_};
 ghost use mathlib.Core.Bool.{not};
 ghost use Prim.Native.Nat.{_<_, _^_};
-ghost use Rattle.rules.specs.Length.{squares, broughtToLength};
+ghost use Rattle.rules.specs.Length.{squares, toLength, broughtToLength};
 ghost use Rattle.rules.specs.Turning.{directionRefused, turnRefused, turnBy, turned};
-ghost use Rattle.turning.specs.Given.{TurnFits};
+ghost use Rattle.turning.specs.Given.{LengthFits, TurnFits};
 
 mod axes;
 mod length;
@@ -60,6 +60,17 @@ pub fn to_length(v: Direction) -> Turned
         return Turned::Refused(Refusal::Length);
     }
     Turned::To(length::parts_to(v, l))
+}
+
+// v brought to the length 2^30, where its length is known not to be nought.
+//
+// Given: v, whose squares' sum is below 2^63, and not nought.
+// Rule: 01, "bring to length".
+pub fn brought(v: Direction) -> Direction
+    requires { ⌜ LengthFits v ⌝ }
+    ensures { λ r. ⌜ r ≡ toLength v ⌝ }
+{
+    length::parts_to(v, length::length_of(v))
 }
 
 // v turned about an axis, with the angle's pair at hand, and brought to length.

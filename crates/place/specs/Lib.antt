@@ -1,0 +1,2 @@
+-- What the inner functions of a place are given.
+pub mod Given

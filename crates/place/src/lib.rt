@@ -1,0 +1,3 @@
+// The place of a star, document 01, "Turns, readings, place": what date and site decide, and then the six steps.
+
+mod steps;
