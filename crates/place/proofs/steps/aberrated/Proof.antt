@@ -12,9 +12,10 @@ use Rattle.place.proofs.steps.aberrated.Tie as tie
 sum-requires : tie.Need-sum-requires
 sum-requires c κs =
     let v = accepted-parts (c .before .args .v) (c .before .pre .direction) in
-    let a = c .before .pre .night .aberration in
-    (record { x = omega (arith, v .x); y = omega (arith, v .y); z = omega (arith, v .z) },
-    record { x = omega (arith, a .x); y = omega (arith, a .y); z = omega (arith, a .z) })
+    let a = c .before .pre .night .aberration in (
+      record { x = omega (arith, v .x); y = omega (arith, v .y); z = omega (arith, v .z) },
+      record { x = omega (arith, a .x); y = omega (arith, a .y); z = omega (arith, a .z) },
+    )
 
 brought-requires : tie.Need-brought-requires
 brought-requires c κs =
