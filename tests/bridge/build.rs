@@ -3,8 +3,15 @@
 use std::path::PathBuf;
 use std::{env, fs};
 
-const SUBJECTS: [&str; 7] = [
-    "whole", "circle", "turning", "reading", "dates", "earth", "place",
+const SUBJECTS: [&str; 8] = [
+    "whole",
+    "circle",
+    "turning",
+    "reading",
+    "dates",
+    "earth",
+    "place",
+    "star_list",
 ];
 
 fn main() {
