@@ -56,12 +56,7 @@ pub const TIMES_LINE: Function<0, 1> = Function {
     #[cfg(linked)]
     linked: |call| {
         extern "C" {
-            fn inner_times_line(
-                line: *const u8,
-                line_len: usize,
-                out: *mut u8,
-                out_len: usize,
-            ) -> Words<1>;
+            fn inner_times_line(line: *const u8, line_len: usize, out: *mut u8, out_len: usize) -> Words<1>;
         }
         let (line, out) = (&call.read, &mut call.room);
         // Safety: `tests/exports` says that the archive has it; each pointer goes with its own length.
@@ -139,8 +134,7 @@ pub const LIST_READ: Function<0, 2> = Function {
         }
         let file = &call.read;
         // Safety: `tests/exports` says that the archive has it; each pointer goes with its own length.
-        let read =
-            |room, length| unsafe { inner_list_read(file.as_ptr(), file.len(), room, length) };
+        let read = |room, length| unsafe { inner_list_read(file.as_ptr(), file.len(), room, length) };
         lend_entries(&mut call.room, read).0
     },
     blank: blank_entries,
@@ -175,18 +169,7 @@ pub const LIST_WRITE: Function<0, 2> = Function {
 #[cfg(exported = "star_list")]
 pub const NIGHT_LIST: Function<10, 2> = Function {
     name: "inner_night_list",
-    given: [
-        "year",
-        "month",
-        "day",
-        "hour",
-        "minute",
-        "second",
-        "ms",
-        "difference",
-        "latitude",
-        "longitude",
-    ],
+    given: ["year", "month", "day", "hour", "minute", "second", "ms", "difference", "latitude", "longitude"],
     answered: ["refused", "count"],
     #[cfg(linked)]
     linked: |call| {
@@ -207,9 +190,8 @@ pub const NIGHT_LIST: Function<10, 2> = Function {
             ) -> Words<2>;
         }
         let [.., latitude, longitude] = call.given;
-        let [y, m, d, hour, minute, second, ms, difference] = std::array::from_fn(|part| {
-            i32::try_from(call.given[part]).expect("a number of the C type")
-        });
+        let [y, m, d, hour, minute, second, ms, difference] =
+            std::array::from_fn(|part| i32::try_from(call.given[part]).expect("a number of the C type"));
         // Safety: `tests/exports` says that the archive has it; the pointer goes with its length.
         let work = |entries, length| unsafe {
             inner_night_list(

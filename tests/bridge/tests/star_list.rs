@@ -15,12 +15,7 @@ const MOST_MOTION: i64 = 100_000_000;
 
 /// An entry as it lies in C's memory: the record of its star, the mark in a word of its own, the place.
 fn bytes_of_entry(entry: &Entry) -> Vec<u8> {
-    let Place {
-        right_ascension,
-        declination,
-        azimuth,
-        altitude,
-    } = entry.place;
+    let Place { right_ascension, declination, azimuth, altitude } = entry.place;
     let words = [entry.mark, right_ascension, declination, azimuth, altitude];
     let words = words.map(|word| i64::try_from(word).expect("64 bits").to_le_bytes());
     [record_of(entry.star), words.concat()].concat()
@@ -34,12 +29,7 @@ fn entry_of_bytes(bytes: &[u8]) -> Entry {
     Entry {
         star: star_of(&bytes[..RECORD]),
         mark: word(3),
-        place: Place {
-            right_ascension: word(4),
-            declination: word(5),
-            azimuth: word(6),
-            altitude: word(7),
-        },
+        place: Place { right_ascension: word(4), declination: word(5), azimuth: word(6), altitude: word(7) },
     }
 }
 
@@ -48,10 +38,7 @@ fn bytes_of_entries(entries: &[Entry]) -> Vec<u8> {
 }
 
 fn entries_of_bytes(bytes: &[u8]) -> Vec<Entry> {
-    bytes
-        .chunks_exact(ENTRY_BYTES)
-        .map(entry_of_bytes)
-        .collect()
+    bytes.chunks_exact(ENTRY_BYTES).map(entry_of_bytes).collect()
 }
 
 fn read(call: &mut Call<0>) -> [i64; 2] {
@@ -70,23 +57,9 @@ fn write(call: &mut Call<0>) -> [i64; 2] {
 fn night_list(call: &mut Call<10>) -> [i64; 2] {
     let [year, month, day, hour, minute, second, ms, difference, latitude, longitude] =
         call.given.map(Whole::from);
-    let moment = Moment {
-        date: Date { year, month, day },
-        hour,
-        minute,
-        second,
-        ms,
-        difference,
-    };
+    let moment = Moment { date: Date { year, month, day }, hour, minute, second, ms, difference };
     let mut entries = entries_of_bytes(&call.room);
-    let count = star_list::night_list(
-        moment,
-        Site {
-            latitude,
-            longitude,
-        },
-        &mut entries,
-    );
+    let count = star_list::night_list(moment, Site { latitude, longitude }, &mut entries);
     call.room = bytes_of_entries(&entries);
     words(count.map(|count| vec![count as Whole]))
 }
@@ -167,11 +140,7 @@ fn files_read() {
     let good = (0..RANDOM).map(|_| {
         let count = count(&mut chance);
         let (read, room) = (file(&mut chance, count), room(&mut chance, count));
-        Call {
-            given: [],
-            read,
-            room,
-        }
+        Call { given: [], read, room }
     });
     compare_lent(&LIST_READ, "whole files", good, read);
 
@@ -180,11 +149,7 @@ fn files_read() {
         let count = count(&mut chance);
         let (mut read, room) = (file(&mut chance, count), room(&mut chance, count));
         damage(&mut chance, &mut read);
-        Call {
-            given: [],
-            read,
-            room,
-        }
+        Call { given: [], read, room }
     });
     compare_lent(&LIST_READ, "damaged files", damaged, read);
 }
@@ -196,30 +161,15 @@ fn files_written() {
         let count = count(&mut chance);
         let entries = entries(&mut chance, count, 200);
         let length = file_length(entries.len()) as i64 + chance.within(-2, 30);
-        let room = (0..chance.one_of(&[0, length]))
-            .map(|_| chance.any() as u8)
-            .collect();
-        Call {
-            given: [],
-            read: bytes_of_entries(&entries),
-            room,
-        }
+        let room = (0..chance.one_of(&[0, length])).map(|_| chance.any() as u8).collect();
+        Call { given: [], read: bytes_of_entries(&entries), room }
     });
     compare_lent(&LIST_WRITE, "random", calls, write);
 }
 
 #[test]
 fn night_lists() {
-    let ranges = [
-        (1972, 2099),
-        (1, 12),
-        (1, 31),
-        (0, 23),
-        (0, 59),
-        (0, 59),
-        (0, 999),
-        (-900, 900),
-    ];
+    let ranges = [(1972, 2099), (1, 12), (1, 31), (0, 23), (0, 59), (0, 59), (0, 999), (-900, 900)];
     let (quarter, half_circle) = (QUARTER as i64, HALF_CIRCLE as i64);
     let mut chance = Chance::new("night_lists");
     let calls = (0..RANDOM / 10).map(|_| {

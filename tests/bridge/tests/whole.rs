@@ -49,9 +49,7 @@ fn on_circle([a]: [i64; 1]) -> [i64; 2] {
 
 /// All tuples of two and of three out of several.
 fn pairs(several: &[i64]) -> impl Iterator<Item = [i64; 2]> + '_ {
-    several
-        .iter()
-        .flat_map(|a| several.iter().map(|b| [*a, *b]))
+    several.iter().flat_map(|a| several.iter().map(|b| [*a, *b]))
 }
 
 fn triples(several: &[i64]) -> impl Iterator<Item = [i64; 3]> + '_ {
@@ -60,10 +58,7 @@ fn triples(several: &[i64]) -> impl Iterator<Item = [i64; 3]> + '_ {
 
 #[test]
 fn rnd_quotient() {
-    let ends = around(
-        &[i64::MIN, -MOST_DIVISOR, -2, 0, 2, MOST_DIVISOR, i64::MAX],
-        2,
-    );
+    let ends = around(&[i64::MIN, -MOST_DIVISOR, -2, 0, 2, MOST_DIVISOR, i64::MAX], 2);
     compare(&RND_QUOTIENT, "ends", pairs(&ends), quotient);
 
     // a = q b + b / 2 and its neighbours, for an even b: exactly half, and just past it either way
@@ -87,21 +82,9 @@ fn rnd_quotient() {
 
 #[test]
 fn rnd_product_quotient() {
-    let numbers = [
-        MOST_FACTOR,
-        MOST_OTHER_FACTOR,
-        1 << 19,
-        1 << 20,
-        1 << 40,
-        i64::MAX,
-    ];
+    let numbers = [MOST_FACTOR, MOST_OTHER_FACTOR, 1 << 19, 1 << 20, 1 << 40, i64::MAX];
     let both_signs = [&[0][..], &numbers, &numbers.map(|number| -number)].concat();
-    compare(
-        &RND_PRODUCT_QUOTIENT,
-        "ends",
-        triples(&around(&both_signs, 1)),
-        product_quotient,
-    );
+    compare(&RND_PRODUCT_QUOTIENT, "ends", triples(&around(&both_signs, 1)), product_quotient);
 
     // a b is an odd number of halves of d, give or take one: b is 1 or -1 modulo the even d
     let mut chance = Chance::new("rnd_product_quotient, ties");
@@ -109,11 +92,7 @@ fn rnd_product_quotient() {
         let half = chance.of_any_size(1, MOST_PRODUCT_DIVISOR / 2);
         let most = MOST_OTHER_FACTOR / (2 * half);
         let b = 2 * half * chance.of_any_size(-most + 1, most - 1) + chance.one_of(&[-1, 1]);
-        [
-            chance.one_of(&[-1, 1]) * half + chance.within(-1, 1),
-            b,
-            2 * half,
-        ]
+        [chance.one_of(&[-1, 1]) * half + chance.within(-1, 1), b, 2 * half]
     });
     compare(&RND_PRODUCT_QUOTIENT, "ties", ties, product_quotient);
 
@@ -160,18 +139,7 @@ fn roots() {
 fn circles() {
     let circle = CIRCLE as i64;
     let most = i64::MAX / circle;
-    let ends = around(
-        &[
-            i64::MIN,
-            -most * circle,
-            -circle,
-            0,
-            circle,
-            most * circle,
-            i64::MAX,
-        ],
-        2,
-    );
+    let ends = around(&[i64::MIN, -most * circle, -circle, 0, circle, most * circle, i64::MAX], 2);
     compare(&ON_CIRCLE, "ends", ends.iter().map(|a| [*a]), on_circle);
 
     let mut chance = Chance::new("circles, whole");
