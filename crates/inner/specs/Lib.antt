@@ -1,0 +1,2 @@
+-- What the exports for the tests answer.
+pub mod Numbers

@@ -1,0 +1,1 @@
+// Laws of whole numbers, in specs/. There is no code.

@@ -1,0 +1,183 @@
+-- The paper's number and values of an answer are one-to-one: two answers that say the same on paper are the same answer.
+-- So a contract that fixes what is said on paper leaves one answer of the enum.
+use mathlib.Core.Path.{_≡_, refl, sym, ap, _∙_}
+use mathlib.Core.List.{List, [], _∷_}
+use Prim.Native.Nat.{ℕ, _+_, _-_, _<_}
+use native.Mathlib.Omega.{arith}
+use lib.ListN.{getD}
+use lib.Dec.{lit<}
+use lib.IntN.{ℤ, pos, natAbs}
+use Rattle.rules.specs.declared.Pair.{Pair}
+use Rattle.rules.specs.declared.Refusal.{Refusal}
+use Rattle.rules.specs.declared.Numbered.{Numbered}
+use Rattle.rules.specs.declared.Dated.{Dated}
+use Rattle.rules.specs.declared.Instants.{Instants}
+use Rattle.rules.specs.declared.Angle.{Angle}
+use Rattle.rules.specs.declared.Precessed.{Precessed}
+use Rattle.rules.specs.declared.Argued.{Argued}
+use Rattle.rules.specs.declared.Nutated.{Nutated}
+use Rattle.rules.specs.declared.Turned.{Turned}
+use Rattle.rules.specs.declared.Prepared.{Prepared}
+use Rattle.rules.specs.declared.Placed.{Placed}
+use Rattle.rules.specs.declared.Listed.{Listed}
+use Rattle.rules.specs.Refusals.{number, Answer, given, refused, numberedAnswer, datedAnswer, instantsAnswer, angleAnswer}
+use Rattle.rules.specs.Refusals.{precessedAnswer, arguedAnswer, nutatedAnswer, turnedAnswer, placedAnswer, listedAnswer}
+use Rattle.rules.specs.Refusals.{parts, preparedAnswer}
+
+-- ---- refusals
+
+-- in the order of their numbers
+abbrev pub refusals : List Refusal
+refusals =
+    Refusal.Year ∷ Refusal.Day ∷ Refusal.Time ∷ Refusal.Difference ∷ Refusal.Star ∷ Refusal.Site ∷ Refusal.Direction
+    ∷ Refusal.Turn ∷ Refusal.Mark ∷ Refusal.Count ∷ Refusal.Room ∷ Refusal.Instant ∷ Refusal.Length ∷ []
+
+abbrev refusalOf : ℕ → Refusal
+refusalOf n = getD refusals (n - 1) Refusal.Length
+
+refusalOf-number : (r : Refusal) → refusalOf (number r) ≡ r
+unfolding number
+refusalOf-number Refusal.Year = refl
+refusalOf-number Refusal.Day = refl
+refusalOf-number Refusal.Time = refl
+refusalOf-number Refusal.Difference = refl
+refusalOf-number Refusal.Star = refl
+refusalOf-number Refusal.Site = refl
+refusalOf-number Refusal.Direction = refl
+refusalOf-number Refusal.Turn = refl
+refusalOf-number Refusal.Mark = refl
+refusalOf-number Refusal.Count = refl
+refusalOf-number Refusal.Room = refl
+refusalOf-number Refusal.Instant = refl
+refusalOf-number Refusal.Length = refl
+
+pub number-one : (r s : Refusal) → number r ≡ number s → r ≡ s
+number-one r s e = sym (refusalOf-number r) ∙ ap refusalOf e ∙ refusalOf-number s
+
+pub number-pos : (r : Refusal) → 0 < number r
+unfolding number
+number-pos Refusal.Year = lit< tt
+number-pos Refusal.Day = lit< tt
+number-pos Refusal.Time = lit< tt
+number-pos Refusal.Difference = lit< tt
+number-pos Refusal.Star = lit< tt
+number-pos Refusal.Site = lit< tt
+number-pos Refusal.Direction = lit< tt
+number-pos Refusal.Turn = lit< tt
+number-pos Refusal.Mark = lit< tt
+number-pos Refusal.Count = lit< tt
+number-pos Refusal.Room = lit< tt
+number-pos Refusal.Instant = lit< tt
+number-pos Refusal.Length = lit< tt
+
+-- ---- answers
+
+-- what is refused has a number that no answer has
+never : {A : Type 0} (r : Refusal) (n : ℕ) (zs : List ℤ) → given zs ≡ refused r n → A
+unfolding given refused
+never r n zs e = absurd (omega (arith, ap (λ (a : Answer). a .number) e, number-pos r))
+
+same-refusal : (r s : Refusal) (n : ℕ) → refused r n ≡ refused s n → r ≡ s
+unfolding refused
+same-refusal r s n e = number-one r s (ap (λ (a : Answer). a .number) e)
+
+same-values : (ys zs : List ℤ) → given ys ≡ given zs → ys ≡ zs
+unfolding given
+same-values ys zs e = ap (λ (a : Answer). a .values) e
+
+-- a value by its place
+abbrev at : List ℤ → ℕ → ℤ
+at zs i = getD zs i (pos 0)
+
+pub numbered-one : (a b : Numbered) → numberedAnswer a ≡ numberedAnswer b → a ≡ b
+unfolding numberedAnswer
+numbered-one (Numbered.Day n) (Numbered.Day m) e = ap (λ zs. Numbered.Day (at zs 0)) (same-values _ _ e)
+numbered-one (Numbered.Day n) (Numbered.Refused s) e = never s 1 _ e
+numbered-one (Numbered.Refused r) (Numbered.Day n) e = never r 1 _ (sym e)
+numbered-one (Numbered.Refused r) (Numbered.Refused s) e = ap Numbered.Refused (same-refusal r s 1 e)
+
+pub dated-one : (a b : Dated) → datedAnswer a ≡ datedAnswer b → a ≡ b
+unfolding datedAnswer
+dated-one (Dated.On d) (Dated.On d′) e = ap (λ zs. Dated.On (record { year = at zs 0; month = at zs 1; day = at zs 2 })) (same-values _ _ e)
+dated-one (Dated.On d) (Dated.Refused s) e = never s 3 _ e
+dated-one (Dated.Refused r) (Dated.On d) e = never r 3 _ (sym e)
+dated-one (Dated.Refused r) (Dated.Refused s) e = ap Dated.Refused (same-refusal r s 3 e)
+
+pub instants-one : (a b : Instants) → instantsAnswer a ≡ instantsAnswer b → a ≡ b
+unfolding instantsAnswer
+instants-one (Instants.At ut tt) (Instants.At ut′ tt′) e =
+    ap (λ zs. Instants.At (record { 0 = at zs 0 }) (record { 0 = at zs 1 })) (same-values _ _ e)
+instants-one (Instants.At ut tt) (Instants.Refused s) e = never s 2 _ e
+instants-one (Instants.Refused r) (Instants.At ut tt) e = never r 2 _ (sym e)
+instants-one (Instants.Refused r) (Instants.Refused s) e = ap Instants.Refused (same-refusal r s 2 e)
+
+pub angle-one : (a b : Angle) → angleAnswer a ≡ angleAnswer b → a ≡ b
+unfolding angleAnswer
+angle-one (Angle.Of x) (Angle.Of x′) e = ap (λ zs. Angle.Of (at zs 0)) (same-values _ _ e)
+angle-one (Angle.Of x) (Angle.Refused s) e = never s 1 _ e
+angle-one (Angle.Refused r) (Angle.Of x) e = never r 1 _ (sym e)
+angle-one (Angle.Refused r) (Angle.Refused s) e = ap Angle.Refused (same-refusal r s 1 e)
+
+pub precessed-one : (a b : Precessed) → precessedAnswer a ≡ precessedAnswer b → a ≡ b
+unfolding precessedAnswer
+precessed-one (Precessed.By p) (Precessed.By p′) e = ap (λ zs. Precessed.By (record { zeta = at zs 0; z = at zs 1; theta = at zs 2 })) (same-values _ _ e)
+precessed-one (Precessed.By p) (Precessed.Refused s) e = never s 3 _ e
+precessed-one (Precessed.Refused r) (Precessed.By p) e = never r 3 _ (sym e)
+precessed-one (Precessed.Refused r) (Precessed.Refused s) e = ap Precessed.Refused (same-refusal r s 3 e)
+
+pub argued-one : (a b : Argued) → arguedAnswer a ≡ arguedAnswer b → a ≡ b
+unfolding arguedAnswer
+argued-one (Argued.By x) (Argued.By x′) e = ap (λ zs. Argued.By (record { moon = at zs 0; sun = at zs 1; latitude = at zs 2; elongation = at zs 3; node = at zs 4 })) (same-values _ _ e)
+argued-one (Argued.By x) (Argued.Refused s) e = never s 5 _ e
+argued-one (Argued.Refused r) (Argued.By x) e = never r 5 _ (sym e)
+argued-one (Argued.Refused r) (Argued.Refused s) e = ap Argued.Refused (same-refusal r s 5 e)
+
+pub nutated-one : (a b : Nutated) → nutatedAnswer a ≡ nutatedAnswer b → a ≡ b
+unfolding nutatedAnswer
+nutated-one (Nutated.By n) (Nutated.By m) e = ap (λ zs. Nutated.By (record { longitude = at zs 0; obliquity = at zs 1 })) (same-values _ _ e)
+nutated-one (Nutated.By n) (Nutated.Refused s) e = never s 2 _ e
+nutated-one (Nutated.Refused r) (Nutated.By n) e = never r 2 _ (sym e)
+nutated-one (Nutated.Refused r) (Nutated.Refused s) e = ap Nutated.Refused (same-refusal r s 2 e)
+
+pub turned-one : (a b : Turned) → turnedAnswer a ≡ turnedAnswer b → a ≡ b
+unfolding turnedAnswer
+turned-one (Turned.To v) (Turned.To v′) e = ap (λ zs. Turned.To (record { x = at zs 0; y = at zs 1; z = at zs 2 })) (same-values _ _ e)
+turned-one (Turned.To v) (Turned.Refused s) e = never s 3 _ e
+turned-one (Turned.Refused r) (Turned.To v) e = never r 3 _ (sym e)
+turned-one (Turned.Refused r) (Turned.Refused s) e = ap Turned.Refused (same-refusal r s 3 e)
+
+pub placed-one : (a b : Placed) → placedAnswer a ≡ placedAnswer b → a ≡ b
+unfolding placedAnswer
+placed-one (Placed.At p) (Placed.At p′) e = ap (λ zs. Placed.At (record { ra = at zs 0; declination = at zs 1; azimuth = at zs 2; altitude = at zs 3 })) (same-values _ _ e)
+placed-one (Placed.At p) (Placed.Refused s) e = never s 4 _ e
+placed-one (Placed.Refused r) (Placed.At p) e = never r 4 _ (sym e)
+placed-one (Placed.Refused r) (Placed.Refused s) e = ap Placed.Refused (same-refusal r s 4 e)
+
+pub listed-one : (a b : Listed) → listedAnswer a ≡ listedAnswer b → a ≡ b
+unfolding listedAnswer
+listed-one (Listed.Count n) (Listed.Count m) e = ap (λ zs. Listed.Count (natAbs (at zs 0))) (same-values _ _ e)
+listed-one (Listed.Count n) (Listed.Refused s) e = never s 1 _ e
+listed-one (Listed.Refused r) (Listed.Count n) e = never r 1 _ (sym e)
+listed-one (Listed.Refused r) (Listed.Refused s) e = ap Listed.Refused (same-refusal r s 1 e)
+
+abbrev pairAt : List ℤ → ℕ → Pair
+pairAt zs i = record { cosine = at zs i; sine = at zs (i + 1) }
+
+pub prepared-one : (a b : Prepared) → preparedAnswer a ≡ preparedAnswer b → a ≡ b
+unfolding preparedAnswer parts
+prepared-one (Prepared.For n) (Prepared.For m) e =
+    ap (λ zs. Prepared.For (record {
+      tt = record { 0 = at zs 0 };
+      zeta = pairAt zs 1;
+      theta = pairAt zs 3;
+      z = pairAt zs 5;
+      aberration = record { x = at zs 7; y = at zs 8; z = at zs 9 };
+      mean = pairAt zs 10;
+      longitude = pairAt zs 12;
+      obliquity = pairAt zs 14;
+      sidereal = pairAt zs 16;
+      latitude = pairAt zs 18;
+    })) (same-values _ _ e)
+prepared-one (Prepared.For n) (Prepared.Refused s) e = never s 20 _ e
+prepared-one (Prepared.Refused r) (Prepared.For n) e = never r 20 _ (sym e)
+prepared-one (Prepared.Refused r) (Prepared.Refused s) e = ap Prepared.Refused (same-refusal r s 20 e)

@@ -1,0 +1,1 @@
+// What is known of the rules of document 01, in specs/. There is no code.

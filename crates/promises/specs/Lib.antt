@@ -1,0 +1,2 @@
+-- The reading room: each file restates in full what is promised, and proves it by citing the crates below.
+pub mod OnlyOne

@@ -1,0 +1,130 @@
+// Whole-number work that every rule of document 01 rests on. No sum or product on the way passes an i64.
+
+ghost use mathlib.Core.Path.{_≡_};
+ghost use Prim.Native.Nat.{ℕ, _≤_, _^_};
+ghost use lib.IntN.{ℤ, pos, natAbs, _*ℤ_};
+ghost use lib.Signed.{_<ℤ_, _≤ℤ_};
+ghost use Rattle.rules.specs.Units.{circle, between};
+ghost use Rattle.rules.specs.Rounding.{rnd, modulo};
+ghost use Rattle.rules.specs.Length.{root};
+ghost use Rattle.laws.specs.Product.{ProductFits};
+
+// C: the circle, in µas.
+const CIRCLE: i64 = 1296000000000;
+
+// A digit of a carried product, and the same twice.
+const DIGIT: i64 = 1048576;
+
+const TWO_DIGITS: i64 = 1099511627776;
+
+// One more than the root of the largest i64.
+const ROOTS: i64 = 3037000500;
+
+// Rnd(a / b): the nearest whole number, halves away from zero.
+//
+// Given: a, any; b from 1 to 2^62.
+// Returned: Rnd(a / b), no larger in size than a.
+// Rule: 01, "Numbers, angles, instants".
+//
+// Both operators go toward zero and keep the sign of a, so there is no case on signs; 2 * (a % b) / b
+// is 1, 0 or -1. The text-book (2 * a + b) / (2 * b) would pass the word from a = 2^62 up.
+pub fn rnd_quotient(a: i64, b: i64) -> i64
+    requires { ⌜ pos 0 <ℤ b ⌝ }
+    requires { ⌜ natAbs b ≤ 2 ^ 62 ⌝ }
+    ensures { λ r. ⌜ r ≡ rnd a (natAbs b) ⌝ }
+{
+    a / b + 2 * (a % b) / b
+}
+
+// Rnd(a * b / d), though a * b may pass the word.
+//
+// Given: what `ProductFits` asks: d from 1 to 2^42, a to 2^42 and b to 2^60 in size, the answer to 2^61.
+// Returned: Rnd(a * b / d), to the last unit.
+// Rule: 01, "where a rule's product is larger it is carried in parts, with the same answer".
+//
+// As dividing by hand: b in three digits of 20 bits, what each leaves over carried to the next.
+pub fn rnd_product_quotient(a: i64, b: i64, d: i64) -> i64
+    requires { ⌜ ProductFits a b d ⌝ }
+    ensures { λ r. ⌜ r ≡ rnd (a *ℤ b) (natAbs d) ⌝ }
+{
+    let high = a * (b / TWO_DIGITS);
+    let middle = high % d * DIGIT + a * (b / DIGIT % DIGIT);
+    let low = middle % d * DIGIT + a * (b % DIGIT);
+    (high / d * DIGIT + middle / d) * DIGIT + rnd_quotient(low, d)
+}
+
+// The whole root, downward.
+//
+// Given: n, not negative.
+// Returned: the largest number whose square is at most n.
+// Rule: 01, "L is the whole root (downward)".
+//
+// The root lies from low on and below low + gap; trial * trial fits, as no trial reaches ROOTS.
+pub fn whole_root(n: i64) -> i64
+    requires { ⌜ pos 0 ≤ℤ n ⌝ }
+    ensures { λ r. ⌜ r ≡ pos (root (natAbs n)) ⌝ }
+{
+    let mut low: i64 = 0;
+    let mut gap: i64 = ROOTS;
+    while gap > 1 {
+        let half = gap / 2;
+        let trial = low + half;
+        if trial * trial <= n {
+            low = trial;
+            gap = gap - half;
+        } else {
+            gap = half;
+        }
+    }
+    low
+}
+
+// a modulo d, never negative.
+//
+// Given: a, any; d, above nought.
+// Returned: from 0 to d - 1.
+// Rule: 01, "modulo C", "modulo 86,400,000".
+pub fn modulo_of(a: i64, d: i64) -> i64
+    requires { ⌜ pos 0 <ℤ d ⌝ }
+    ensures { λ r. ⌜ r ≡ pos (modulo a (natAbs d)) ⌝ }
+{
+    let r = a % d;
+    if r < 0 { r + d } else { r }
+}
+
+// An angle modulo C.
+//
+// Given: a, any, in µas.
+// Returned: from 0 to C - 1.
+// Rule: 01, "Reduce modulo C".
+pub fn on_circle(a: i64) -> i64
+    ensures { λ r. ⌜ r ≡ pos (modulo a circle) ⌝ }
+{
+    modulo_of(a, CIRCLE)
+}
+
+// Whether z lies from low to high, both ends included.
+//
+// Given: any three numbers.
+// Rule: 01, "not within", "not 1 to 3" and the like: every range of the refusals.
+pub fn is_between(low: i64, high: i64, z: i64) -> bool
+    ensures { λ r. ⌜ r ≡ between low high z ⌝ }
+{
+    if z < low {
+        return false;
+    }
+    if high < z {
+        return false;
+    }
+    true
+}
+
+// The size of z, without its sign.
+//
+// Given: z, to 2^62 in size: the lowest i64 has a size that no i64 holds.
+pub fn size_of(z: i64) -> i64
+    requires { ⌜ natAbs z ≤ 2 ^ 62 ⌝ }
+    ensures { λ r. ⌜ r ≡ pos (natAbs z) ⌝ }
+{
+    if z < 0 { -z } else { z }
+}

@@ -1,0 +1,1 @@
+// What a machine word holds, in specs/. There is no code.
