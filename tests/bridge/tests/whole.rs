@@ -9,12 +9,12 @@ use second::units::{Whole, CIRCLE};
 
 const RANDOM: usize = 100_000;
 
-/// The largest sizes that the conditions allow.
+/// The largest sizes that `inner` states as conditions: document 01 needs no larger.
 const MOST_DIVISOR: i64 = 1 << 62;
 const MOST_FACTOR: i64 = 1 << 42;
 const MOST_OTHER_FACTOR: i64 = 1 << 60;
 const MOST_PRODUCT_DIVISOR: i64 = 1 << 42;
-const MOST_QUOTIENT: Whole = 1 << 61;
+const MOST_QUOTIENT: i64 = 1 << 61;
 
 /// Met and the value where the conditions hold, else two noughts.
 fn tried(condition: bool, value: impl FnOnce() -> Whole) -> [i64; 2] {
@@ -31,12 +31,16 @@ fn quotient([a, b]: [i64; 2]) -> [i64; 2] {
 }
 
 fn product_quotient([a, b, d]: [i64; 3]) -> [i64; 2] {
-    let product = Whole::from(a) * Whole::from(b);
     let condition = (1..=MOST_PRODUCT_DIVISOR).contains(&d)
         && (-MOST_FACTOR..=MOST_FACTOR).contains(&a)
         && (-MOST_OTHER_FACTOR..=MOST_OTHER_FACTOR).contains(&b)
-        && product.abs() <= Whole::from(d) * MOST_QUOTIENT;
-    tried(condition, || rnd(product, d.into()))
+        && b.abs() <= most_other_factor(a, d);
+    tried(condition, || rnd(Whole::from(a) * Whole::from(b), d.into()))
+}
+
+/// The answer must fit: b is at most 2^61 / (|a / d| + 1) in size.
+fn most_other_factor(a: i64, d: i64) -> i64 {
+    MOST_QUOTIENT / (a.abs() / d + 1)
 }
 
 fn whole_root([n]: [i64; 1]) -> [i64; 2] {
@@ -96,14 +100,13 @@ fn rnd_product_quotient() {
     });
     compare(&RND_PRODUCT_QUOTIENT, "ties", ties, product_quotient);
 
-    // on both sides of |a| |b| = d 2^61
+    // on both sides of the largest b
     let mut chance = Chance::new("rnd_product_quotient, largest");
     let largest = (0..RANDOM).map(|_| {
-        let d = chance.of_any_size(1, MOST_FACTOR / 2);
-        let a = chance.within(2 * d, MOST_FACTOR);
-        let b = Whole::from(d) * MOST_QUOTIENT / Whole::from(a);
-        let signed = chance.one_of(&[-1, 1]) * a;
-        [signed, b as i64 + chance.within(-1, 1), d]
+        let d = chance.of_any_size(1, MOST_PRODUCT_DIVISOR - 1);
+        let a = chance.one_of(&[-1, 1]) * chance.within(d, MOST_FACTOR);
+        let b = most_other_factor(a, d) + chance.within(-1, 1);
+        [a, chance.one_of(&[-1, 1]) * b, d]
     });
     compare(&RND_PRODUCT_QUOTIENT, "largest", largest, product_quotient);
 
