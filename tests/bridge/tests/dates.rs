@@ -83,9 +83,8 @@ fn both_sides_of_every_step() {
             for ms in -1..=1000 {
                 for difference in [-900, 0, 900] {
                     let Date { year, month, day } = date;
-                    calls.push(
-                        [year, month, day, hour, minute, second, ms, difference].map(|part| part as i64),
-                    );
+                    let call = [year, month, day, hour, minute, second, ms, difference];
+                    calls.push(call.map(|part| part as i64));
                 }
             }
         }
@@ -111,12 +110,11 @@ fn random_moments() {
     compare(&INSTANTS, "random", random, instants);
 }
 
-/// The difference decides last, whatever else is refused.
+/// Checks run in rising number: every choice of good and bad parts.
 #[test]
 fn order_of_refusals() {
     let good = [2000, 1, 1, 12, 0, 0, 0, 0];
     let bad = [1971, 13, 32, 24, 60, 61, 1000, 901];
-    // every choice of good and bad parts
     let calls = (0..1 << good.len()).map(|choice| {
         std::array::from_fn(|part| if choice >> part & 1 == 0 { good[part] } else { bad[part] })
     });
@@ -139,16 +137,17 @@ fn line(chance: &mut Chance) -> Vec<u8> {
     text.into_bytes()
 }
 
-/// The same line with a byte changed, left out or put in, or cut short.
+/// A line of the form with a byte or two changed, put in or left out, or cut short.
 fn damaged(chance: &mut Chance) -> Vec<u8> {
     let mut line = line(chance);
     for _ in 0..chance.within(1, 2) {
         let at = chance.within(0, line.len() as i64 - 1) as usize;
         let byte = chance.one_of(b"0123456789-+:. \t\r/;\0\xff");
-        match chance.within(0, 3) {
+        match chance.within(0, 4) {
             0 => line[at] = byte,
             1 => line.insert(at, byte),
-            2 => line.truncate(at.max(1)),
+            2 if line.len() > 1 => _ = line.remove(at),
+            3 => line.truncate(at.max(1)),
             _ => line.push(byte),
         }
     }

@@ -36,8 +36,11 @@ const FIRST_DAY: Whole = -10227;
 const LAST_DAY: Whole = 36524;
 
 /// Days per month come from two rows, common and leap.
-const DAYS: [[Whole; 12]; 2] =
-    [[31, 28, 31, 30, 31, 30, 31, 31, 30, 31, 30, 31], [31, 29, 31, 30, 31, 30, 31, 31, 30, 31, 30, 31]];
+#[rustfmt::skip]
+const DAYS: [[Whole; 12]; 2] = [
+    [31, 28, 31, 30, 31, 30, 31, 31, 30, 31, 30, 31],
+    [31, 29, 31, 30, 31, 30, 31, 31, 30, 31, 30, 31],
+];
 
 /// Gregorian calendar.
 fn is_leap(year: Whole) -> bool {
