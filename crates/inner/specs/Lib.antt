@@ -1,2 +1,3 @@
 -- What the exports for the tests answer.
 pub mod Numbers
+pub mod Turns

@@ -2,3 +2,4 @@
 // A function whose rule asks something of its numbers tests that first, so that none relies on its caller.
 
 pub mod numbers;
+pub mod turns;
