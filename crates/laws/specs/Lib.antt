@@ -37,3 +37,5 @@ pub mod Calendar
 pub mod DayNumbers
 pub mod Found
 pub mod Seconds
+pub mod Dates
+pub mod Instants
