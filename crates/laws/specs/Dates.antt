@@ -30,28 +30,29 @@ use Rattle.laws.specs.Seconds.{OneOf, before-step-iff, tai-le}
 -- ---- times of day that exist
 
 -- "Second 60 exists only at 23:59:60 of the day before a step"
-pub record AddedSecond (d : Date) (t : Time) : Type 0 where
+pub record AddedSecond (n : ℤ) (t : Time) : Type 0 where
   pub hour : t .hour ≡ pos 23
   pub minute : t .minute ≡ pos 59
   pub second : t .second ≡ pos 60
-  pub step : OneOf (dayNumber d +ℤ pos 1) (map dayNumber steps)
+  pub step : OneOf (n +ℤ pos 1) (map dayNumber steps)
 
-pub record TimeExists (d : Date) (t : Time) : Type 0 where
+-- a time of day n
+pub record TimeExists (n : ℤ) (t : Time) : Type 0 where
   pub hour : Between (pos 0) (pos 23) (t .hour)
   pub minute : Between (pos 0) (pos 59) (t .minute)
-  pub second : Between (pos 0) (pos 59) (t .second) ⊎ AddedSecond d t
+  pub second : Between (pos 0) (pos 59) (t .second) ⊎ AddedSecond n t
   pub ms : Between (pos 0) (pos 999) (t .ms)
 
 -- the last second of a minute is 60
-abbrev Last : Date → Time → Type 0
-Last d t = ((t .hour ≡ pos 23) × (t .minute ≡ pos 59)) × OneOf (dayNumber d +ℤ pos 1) (map dayNumber steps)
+abbrev Last : ℤ → Time → Type 0
+Last n t = ((t .hour ≡ pos 23) × (t .minute ≡ pos 59)) × OneOf (n +ℤ pos 1) (map dayNumber steps)
 
-last-iff : (d : Date) (t : Time)
-    → same (t .hour) (pos 23) && same (t .minute) (pos 59) && beforeStep (dayNumber d) ≡ true ↔ Last d t
-last-iff d t =
-    both-iff (same (t .hour) (pos 23) && same (t .minute) (pos 59)) (beforeStep (dayNumber d))
+last-iff : (n : ℤ) (t : Time)
+    → same (t .hour) (pos 23) && same (t .minute) (pos 59) && beforeStep n ≡ true ↔ Last n t
+last-iff n t =
+    both-iff (same (t .hour) (pos 23) && same (t .minute) (pos 59)) (beforeStep n)
     (both-iff (same (t .hour) (pos 23)) (same (t .minute) (pos 59)) (same-iff (t .hour) (pos 23)) (same-iff (t .minute) (pos 59)))
-    (before-step-iff (dayNumber d))
+    (before-step-iff n)
 
 -- 0 to 60 is 0 to 59, or 60
 to-sixty : (z : ℤ) → InRange 0 60 z → Between (pos 0) (pos 59) z ⊎ (z ≡ pos 60)
@@ -68,14 +69,14 @@ of-sixty z p =
     let r = in-range 0 59 z (between-iff (pos 0) (pos 59) z .1 p) in
     rw (r .is) (of-range 0 60 (natAbs z) (omega arith) (omega (arith, r .at-most)))
 
-second-iff : (d : Date) (t : Time)
-    → between (pos 0) (pos (lastSecond d t)) (t .second) ≡ true ↔ Between (pos 0) (pos 59) (t .second) ⊎ AddedSecond d t
+second-iff : (n : ℤ) (t : Time)
+    → between (pos 0) (pos (lastSecond n t)) (t .second) ≡ true ↔ Between (pos 0) (pos 59) (t .second) ⊎ AddedSecond n t
 unfolding lastSecond
-second-iff d t = go (same (t .hour) (pos 23) && same (t .minute) (pos 59) && beforeStep (dayNumber d)) (last-iff d t)
+second-iff n t = go (same (t .hour) (pos 23) && same (t .minute) (pos 59) && beforeStep n) (last-iff n t)
   where
-    go : (b : Bool) → (b ≡ true ↔ Last d t)
+    go : (b : Bool) → (b ≡ true ↔ Last n t)
         → (between (pos 0) (pos (cond b 60 59)) (t .second) ≡ true
-        ↔ Between (pos 0) (pos 59) (t .second) ⊎ AddedSecond d t)
+        ↔ Between (pos 0) (pos 59) (t .second) ⊎ AddedSecond n t)
     go true f = (
       λ e.
           ⊎-elim (λ p. inl p)
@@ -90,30 +91,30 @@ second-iff d t = go (same (t .hour) (pos 23) && same (t .minute) (pos 59) && bef
           (λ a. true-not-false (sym (f .1 ((a .hour, a .minute), a .step)))) p,
     )
 
-time-iff : (d : Date) (t : Time)
+time-iff : (n : ℤ) (t : Time)
     → between (pos 0) (pos 23) (t .hour) && between (pos 0) (pos 59) (t .minute)
-    && between (pos 0) (pos (lastSecond d t)) (t .second) && between (pos 0) (pos 999) (t .ms) ≡ true
-    ↔ TimeExists d t
-time-iff d t =
+    && between (pos 0) (pos (lastSecond n t)) (t .second) && between (pos 0) (pos 999) (t .ms) ≡ true
+    ↔ TimeExists n t
+time-iff n t =
     let h = between (pos 0) (pos 23) (t .hour) in
     let m = between (pos 0) (pos 59) (t .minute) in
-    let s = between (pos 0) (pos (lastSecond d t)) (t .second) in
+    let s = between (pos 0) (pos (lastSecond n t)) (t .second) in
     let f = between (pos 0) (pos 999) (t .ms) in
     let i =
     both-iff (h && m && s) f
-    (both-iff (h && m) s (both-iff h m (between-iff _ _ (t .hour)) (between-iff _ _ (t .minute))) (second-iff d t))
+    (both-iff (h && m) s (both-iff h m (between-iff _ _ (t .hour)) (between-iff _ _ (t .minute))) (second-iff n t))
     (between-iff _ _ (t .ms)) in (
       λ e. let u = i .0 e in record { hour = u .0 .0 .0; minute = u .0 .0 .1; second = u .0 .1; ms = u .1 },
       λ p. i .1 (((p .hour, p .minute), p .second), p .ms),
     )
 
-pub time-refused-iff : (d : Date) (t : Time) → timeRefused d t ≡ true ↔ ¬ (TimeExists d t)
+pub time-refused-iff : (n : ℤ) (t : Time) → timeRefused n t ≡ true ↔ ¬ (TimeExists n t)
 unfolding timeRefused
-time-refused-iff d t = refused-iff _ (time-iff d t)
+time-refused-iff n t = refused-iff _ (time-iff n t)
 
-pub time-accepted-iff : (d : Date) (t : Time) → timeRefused d t ≡ false ↔ TimeExists d t
+pub time-accepted-iff : (n : ℤ) (t : Time) → timeRefused n t ≡ false ↔ TimeExists n t
 unfolding timeRefused
-time-accepted-iff d t = accepted-iff _ (time-iff d t)
+time-accepted-iff n t = accepted-iff _ (time-iff n t)
 
 -- UT1−UTC within ±900 ms
 abbrev pub DifferenceSmall : Moment → Type 0
@@ -139,7 +140,7 @@ answered a b c d u t =
     (Instants.At u t))))
 
 instants-is : (m : Moment)
-    → instants m ≡ answered (yearRefused (m .date)) (dayRefused (m .date)) (timeRefused (m .date) (m .time))
+    → instants m ≡ answered (yearRefused (m .date)) (dayRefused (m .date)) (timeRefused (dayNumber (m .date)) (m .time))
     (differenceRefused m) (utOf m) (ttOf m)
 unfolding instants
 instants-is m = refl
@@ -170,11 +171,11 @@ told false false false false u t = (refl, (refl, (refl, refl)))
 
 module _ (m : Moment) where
   pub tells : (r : Instants) → instants m ≡ r
-      → Told r (yearRefused (m .date)) (dayRefused (m .date)) (timeRefused (m .date) (m .time)) (differenceRefused m)
+      → Told r (yearRefused (m .date)) (dayRefused (m .date)) (timeRefused (dayNumber (m .date)) (m .time)) (differenceRefused m)
   tells r e =
-      subst (λ x. Told x (yearRefused (m .date)) (dayRefused (m .date)) (timeRefused (m .date) (m .time)) (differenceRefused m))
+      subst (λ x. Told x (yearRefused (m .date)) (dayRefused (m .date)) (timeRefused (dayNumber (m .date)) (m .time)) (differenceRefused m))
       (sym (instants-is m) ∙ e)
-      (told (yearRefused (m .date)) (dayRefused (m .date)) (timeRefused (m .date) (m .time)) (differenceRefused m) (utOf m) (ttOf m))
+      (told (yearRefused (m .date)) (dayRefused (m .date)) (timeRefused (dayNumber (m .date)) (m .time)) (differenceRefused m) (utOf m) (ttOf m))
 
   -- refusal 1: exactly when the year is not 1972 to 2099
   pub instants-refused-1 : instants m ≡ Instants.Refused Refusal.Year ↔ ¬ (YearExists (m .date))
@@ -194,50 +195,50 @@ module _ (m : Moment) where
 
   -- refusal 3: exactly when there is no such time of day
   pub instants-refused-3 : instants m ≡ Instants.Refused Refusal.Time
-      ↔ YearExists (m .date) × (DayExists (m .date) × ¬ (TimeExists (m .date) (m .time)))
+      ↔ YearExists (m .date) × (DayExists (m .date) × ¬ (TimeExists (dayNumber (m .date)) (m .time)))
   instants-refused-3 = (
     λ e.
         let u = tells (Instants.Refused Refusal.Time) e in
-        (year-accepted-iff (m .date) .0 (u .0), (day-accepted-iff (m .date) .0 (u .1 .0), time-refused-iff (m .date) (m .time) .0 (u .1 .1))),
+        (year-accepted-iff (m .date) .0 (u .0), (day-accepted-iff (m .date) .0 (u .1 .0), time-refused-iff (dayNumber (m .date)) (m .time) .0 (u .1 .1))),
     λ p.
         instants-is m
-        ∙ rw (year-accepted-iff (m .date) .1 (p .0), day-accepted-iff (m .date) .1 (p .1 .0), time-refused-iff (m .date) (m .time) .1 (p .1 .1)),
+        ∙ rw (year-accepted-iff (m .date) .1 (p .0), day-accepted-iff (m .date) .1 (p .1 .0), time-refused-iff (dayNumber (m .date)) (m .time) .1 (p .1 .1)),
   )
 
   -- refusal 4: exactly when UT1−UTC is not within ±900 ms
   pub instants-refused-4 : instants m ≡ Instants.Refused Refusal.Difference
-      ↔ YearExists (m .date) × (DayExists (m .date) × (TimeExists (m .date) (m .time) × ¬ (DifferenceSmall m)))
+      ↔ YearExists (m .date) × (DayExists (m .date) × (TimeExists (dayNumber (m .date)) (m .time) × ¬ (DifferenceSmall m)))
   instants-refused-4 = (
     λ e.
         let u = tells (Instants.Refused Refusal.Difference) e in (
           year-accepted-iff (m .date) .0 (u .0),
-          (day-accepted-iff (m .date) .0 (u .1 .0), (time-accepted-iff (m .date) (m .time) .0 (u .1 .1 .0), difference-refused-iff m .0 (u .1 .1 .1))),
+          (day-accepted-iff (m .date) .0 (u .1 .0), (time-accepted-iff (dayNumber (m .date)) (m .time) .0 (u .1 .1 .0), difference-refused-iff m .0 (u .1 .1 .1))),
         ),
     λ p.
         instants-is m
         ∙ rw (
           year-accepted-iff (m .date) .1 (p .0),
           day-accepted-iff (m .date) .1 (p .1 .0),
-          time-accepted-iff (m .date) (m .time) .1 (p .1 .1 .0),
+          time-accepted-iff (dayNumber (m .date)) (m .time) .1 (p .1 .1 .0),
           difference-refused-iff m .1 (p .1 .1 .1),
         ),
   )
 
   -- and no other way: accepted exactly when all four exist
   pub instants-accepted : instants m ≡ Instants.At (utOf m) (ttOf m)
-      ↔ YearExists (m .date) × (DayExists (m .date) × (TimeExists (m .date) (m .time) × DifferenceSmall m))
+      ↔ YearExists (m .date) × (DayExists (m .date) × (TimeExists (dayNumber (m .date)) (m .time) × DifferenceSmall m))
   instants-accepted = (
     λ e.
         let u = tells (Instants.At (utOf m) (ttOf m)) e in (
           year-accepted-iff (m .date) .0 (u .0),
-          (day-accepted-iff (m .date) .0 (u .1 .0), (time-accepted-iff (m .date) (m .time) .0 (u .1 .1 .0), difference-accepted-iff m .0 (u .1 .1 .1))),
+          (day-accepted-iff (m .date) .0 (u .1 .0), (time-accepted-iff (dayNumber (m .date)) (m .time) .0 (u .1 .1 .0), difference-accepted-iff m .0 (u .1 .1 .1))),
         ),
     λ p.
         instants-is m
         ∙ rw (
           year-accepted-iff (m .date) .1 (p .0),
           day-accepted-iff (m .date) .1 (p .1 .0),
-          time-accepted-iff (m .date) (m .time) .1 (p .1 .1 .0),
+          time-accepted-iff (dayNumber (m .date)) (m .time) .1 (p .1 .1 .0),
           difference-accepted-iff m .1 (p .1 .1 .1),
         ),
   )

@@ -39,8 +39,8 @@ wider z r = record { is = r .is; at-least = r .at-least; at-most = omega (arith,
 sixty : (z : ℤ) → z ≡ pos 60 → InRange 0 60 z
 sixty z e = rw e (record { is = refl; at-least = omega arith; at-most = omega arith })
 
-pub real-time : (d : Date) (t : Time) → TimeExists d t → RealTime t
-real-time d t p = record {
+pub real-time : (n : ℤ) (t : Time) → TimeExists n t → RealTime t
+real-time n t p = record {
   hour = range-of 0 23 (t .hour) (p .hour);
   minute = range-of 0 59 (t .minute) (p .minute);
   second =
@@ -84,11 +84,11 @@ pub record RealMoment (m : Moment) : Type 0 where
   pub difference : natAbs (m .difference) ≤ 900
 
 pub real-moment : (m : Moment) → yearRefused (m .date) ≡ false → dayRefused (m .date) ≡ false
-    → timeRefused (m .date) (m .time) ≡ false → differenceRefused m ≡ false → RealMoment m
+    → timeRefused (dayNumber (m .date)) (m .time) ≡ false → differenceRefused m ≡ false → RealMoment m
 unfolding within
 real-moment m a b c d = record {
   date = real-date (m .date) a b;
-  time = real-time (m .date) (m .time) (time-accepted-iff (m .date) (m .time) .0 c);
+  time = real-time (dayNumber (m .date)) (m .time) (time-accepted-iff (dayNumber (m .date)) (m .time) .0 c);
   difference = within-le 900 (m .difference) (between-iff _ _ (m .difference) .1 (difference-accepted-iff m .0 d));
 }
 
