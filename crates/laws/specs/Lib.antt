@@ -39,3 +39,4 @@ pub mod Found
 pub mod Seconds
 pub mod Dates
 pub mod Instants
+pub mod Parts
