@@ -54,6 +54,14 @@ last-iff n t =
     (both-iff (same (t .hour) (pos 23)) (same (t .minute) (pos 59)) (same-iff (t .hour) (pos 23)) (same-iff (t .minute) (pos 59)))
     (before-step-iff n)
 
+pub last-second-le : (n : ℤ) (t : Time) → lastSecond n t ≤ 60
+unfolding lastSecond
+last-second-le n t = go (same (t .hour) (pos 23) && same (t .minute) (pos 59) && beforeStep n)
+  where
+    go : (b : Bool) → cond b 60 59 ≤ 60
+    go true = omega arith
+    go false = omega arith
+
 -- 0 to 60 is 0 to 59, or 60
 to-sixty : (z : ℤ) → InRange 0 60 z → Between (pos 0) (pos 59) z ⊎ (z ≡ pos 60)
 to-sixty z r = go (ltb (natAbs z) 60) refl

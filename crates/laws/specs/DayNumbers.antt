@@ -8,6 +8,7 @@ use lib.IntN.{ℤ, pos, negsuc, negℤ, natAbs, _+ℤ_, _-ℤ_}
 use lib.Signed.{_≤ℤ_}
 use borrow.Author.Tests.{not-false}
 use Rattle.integers.specs.Difference.{posPart, negPart, eq-of-parts, parts-of-eq, add-is, sub-is, leZ-true}
+use Rattle.integers.specs.Size.{abs-le}
 use Rattle.rules.specs.declared.Date.{Date}
 use Rattle.rules.specs.declared.Numbered.{Numbered}
 use Rattle.rules.specs.declared.Dated.{Dated}
@@ -116,11 +117,20 @@ in-span n p = go (n +ℤ pos 10227) refl
         let a = leZ-true (negsuc 10226) n (yes _ (p .above .le)) in
         absurd (omega (arith, add-is n (pos 10227), parts-of-eq _ (negsuc k) e))
 
+pub number-le : (n : ℤ) → Between (negℤ (pos 10227)) (pos 36524) n → natAbs n ≤ 36524
+number-le n p =
+    let a = leZ-true n (pos 36524) (yes _ (p .below .le)) in
+    let b = leZ-true (negsuc 10226) n (yes _ (p .above .le)) in
+    abs-le n 36524 (omega arith) (omega arith)
+
 pub count-in-span : (k : ℕ) → k < 46752 → Between (negℤ (pos 10227)) (pos 36524) (pos k -ℤ pos 10227)
 count-in-span k h = record {
   above = le-of-sizes (negsuc 10226) (pos k -ℤ pos 10227) (omega (arith, sub-is (pos k) (pos 10227)));
   below = le-of-sizes (pos k -ℤ pos 10227) (pos 36524) (omega (arith, sub-is (pos k) (pos 10227)));
 }
+
+pub real-number-le : (d : Date) → RealDate d → natAbs (dayNumber d) ≤ 36524
+real-number-le d r = rw (day-number-is d) (number-le _ (count-in-span (dayCount d) (real-count-lt d r)))
 
 pub number-count : (k : ℕ) → (pos k -ℤ pos 10227) +ℤ pos 10227 ≡ pos k
 number-count k =

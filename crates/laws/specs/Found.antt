@@ -11,6 +11,7 @@ use borrow.Author.Tests.{ltb-true, ltb-false}
 use Rattle.integers.specs.Difference.{eq-of-parts, add-is, sub-is}
 use Rattle.rules.specs.declared.Date.{Date}
 use Rattle.rules.specs.Calendar.{leap, months, sum, years, dayCount, dayNumber, fall, dateOfCount}
+use Rattle.laws.specs.Ranges.{InRange}
 use Rattle.laws.specs.Rows.{sum-take-suc, sum-take-le, fall-one}
 use Rattle.laws.specs.Calendar.{row, leap-lt, months-row, row-length, months-ge, years-before, year-days}
 use Rattle.laws.specs.Calendar.{Real, date, dayOfYear, day-count-is}
@@ -23,6 +24,12 @@ unfoldable pub dateIn : ℕ → ℕ → Date
 dateIn y n =
     let inMonths = fall (months y) n in
     date y (1 + inMonths .span) (1 + inMonths .day)
+
+-- a year of the span, and a number of days before a date in it
+pub record DaysOfYear (year days : ℤ) : Type 0 where
+  pub in-span : InRange 1972 2099 year
+  pub days-is : days ≡ pos (natAbs days)
+  pub days-lt : natAbs days < sum (months (natAbs year))
 
 -- four years are 1461 days
 abbrev pub yearAt : ℕ → ℕ
@@ -52,6 +59,13 @@ unfolding dateOfCount dateIn
 date-of-count-is n h =
     rw (fall-one years (yearAt n) (n - sum (take (yearAt n) years)) n (year-at-rest n h) (omega (arith, year-at-ge n h)))
 
+-- a row has twelve months
+pub row-whole : (l : ℕ) → l < 2 → sum (take 12 (row l)) ≡ sum (row l)
+unfolding sum
+row-whole zero h = refl
+row-whole (suc zero) h = refl
+row-whole (suc (suc l)) h = absurd (omega arith)
+
 -- a month of the row of its year, and a day in it
 pub date-in-row : (y l k r n : ℕ) → l ≡ leap y → r < getD (row l) k 0 → sum (take k (row l)) + r ≡ n
     → dateIn y n ≡ date y (1 + k) (1 + r)
@@ -68,13 +82,7 @@ nextDate y m d =
     cond (ltb d (getD (months y) (m - 1) 0)) (date y m (d + 1)) (cond (ltb m 12) (date y (m + 1) 1) (date (y + 1) 1 1))
 
 year-whole : (y : ℕ) → sum (take 12 (months y)) ≡ sum (months y)
-unfolding sum
-year-whole y = rw (months-row y) (both (leap y) (leap-lt y))
-  where
-    both : (l : ℕ) → l < 2 → sum (take 12 (row l)) ≡ sum (row l)
-    both zero h = refl
-    both (suc zero) h = refl
-    both (suc (suc l)) h = absurd (omega arith)
+year-whole y = rw (months-row y) (row-whole (leap y) (leap-lt y))
 
 year-first : (y : ℕ) → dayOfYear y 1 1 ≡ 0
 unfolding sum

@@ -60,6 +60,9 @@ ms-of-day-is t r = rw (r .hour .is, r .minute .is, r .second .is, r .ms .is)
 pub ms-count-le : (t : Time) → RealTime t → msCount t ≤ 86400999
 ms-count-le t r = omega (arith, r .hour .at-most, r .minute .at-most, r .second .at-most, r .ms .at-most)
 
+pub ms-of-day-le : (t : Time) → RealTime t → natAbs (msOfDay t) ≤ 86400999
+ms-of-day-le t r = rw (ms-of-day-is t r) (ms-count-le t r)
+
 -- ---- the instants as differences of two counts of ms
 
 pub utc-parts : (m : Moment) → RealTime (m .time)
@@ -75,6 +78,12 @@ utc-parts m r =
       add-is ((pos n -ℤ pos 10227) *ℤ pos 86400000) (pos (msCount (m .time))),
       sub-is ((pos n -ℤ pos 10227) *ℤ pos 86400000 +ℤ pos (msCount (m .time))) (pos 43200000),
     ))
+
+-- a day number of the span, a ms of day, and UT1−UTC
+pub record InstantParts (n t difference : ℤ) : Type 0 where
+  pub day-le : natAbs n ≤ 36524
+  pub ms-le : natAbs t ≤ 86400999
+  pub difference-le : natAbs difference ≤ 900
 
 -- ---- an accepted moment
 

@@ -1,12 +1,12 @@
--- `calendar::years_before` meets its contract: `years-before` of the laws, on bits.
+-- `calendar::years::years_before` meets its contract: `years-before` of the laws, on bits.
 use mathlib.Core.Path.{_∙_, ap}
 use Prim.Native.Nat.{ℕ, _-_, _*_, _/_}
 use native.Mathlib.Omega.{arith}
 use lib.IntN.{ℤ, pos, natAbs}
 use Rattle.words.specs.Holds.{Holds, bits, _-ʷ_, _*ʷ_, _/ʷ_, lit, got, add, add-ok, sub-ok, sub-nat, mul, mul-ok, div-lit, div-ok}
 use Rattle.laws.specs.Calendar.{years-before}
-use Rattle.calendar.proofs.years_before.Statement.{statement}
-use Rattle.calendar.proofs.years_before.Tie as tie
+use Rattle.calendar.proofs.years.years_before.Statement.{statement}
+use Rattle.calendar.proofs.years.years_before.Tie as tie
 
 module _ (c : tie.Start) where
   abbrev y : ℕ

@@ -1,4 +1,4 @@
--- `calendar::is_between` meets its contract.
+-- `calendar::years::is_between` meets its contract.
 use mathlib.Core.Path.{_≡_, _∙_, sym}
 use mathlib.Core.Bool.{true, false}
 use lib.Signed.{leZ}
@@ -7,8 +7,8 @@ use mir.Val.{toZ, ofZ}
 use mir.Facts.{toZ-ofZ}
 use Rattle.rules.specs.Units.{between}
 use Rattle.laws.specs.Ranges.{le-test}
-use Rattle.calendar.proofs.is_between.Statement.{statement}
-use Rattle.calendar.proofs.is_between.Tie as tie
+use Rattle.calendar.proofs.years.is_between.Statement.{statement}
+use Rattle.calendar.proofs.years.is_between.Tie as tie
 
 low-is : (c : tie.Start) → toZ w64 (ofZ w64 (c .args .low)) ≡ c .args .low
 low-is c = toZ-ofZ (c .fits .low)

@@ -1,4 +1,4 @@
--- `calendar::day_refused` meets its contract.
+-- `calendar::dates::day_refused` meets its contract.
 use mathlib.Core.Path.{_≡_, sym, _∙_}
 use mathlib.Core.Bool.{Bool, true, false, not}
 use Prim.Native.Nat.{ℕ, _-_}
@@ -13,8 +13,8 @@ use Rattle.rules.specs.Units.{between}
 use Rattle.rules.specs.Calendar.{leap, months, monthDays, dayRefused}
 use Rattle.laws.specs.Ranges.{InRange, in-range}
 use Rattle.laws.specs.Calendar.{row, leap-lt, months-row, months-le}
-use Rattle.calendar.proofs.day_refused.Statement.{statement}
-use Rattle.calendar.proofs.day_refused.Tie as tie
+use Rattle.calendar.proofs.dates.day_refused.Statement.{statement}
+use Rattle.calendar.proofs.dates.day_refused.Tie as tie
 
 is-between-requires : tie.Need-is-between-requires
 is-between-requires c κs = search needs

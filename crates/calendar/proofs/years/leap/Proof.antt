@@ -1,4 +1,4 @@
--- `calendar::leap` meets its contract: a remainder's bits are nought exactly where the remainder of the size is.
+-- `calendar::years::leap` meets its contract: a remainder's bits are nought exactly where the remainder of the size is.
 use mathlib.Core.Path.{_≡_, refl, sym, _∙_}
 use Prim.Native.Nat.{ℕ, zero, suc, _<_, _≤_, _%_, _^_, _-_}
 use native.Mathlib.Nat.{mod-lt}
@@ -12,8 +12,8 @@ use mir.Facts.{toZ-ofZ, sfits-lit}
 use borrow.Author.Tests.{eq-eqb, ne-eqb}
 use Rattle.words.specs.Fits.{quot-fits}
 use Rattle.rules.specs.Calendar.{leap}
-use Rattle.calendar.proofs.leap.Statement.{statement}
-use Rattle.calendar.proofs.leap.Tie as tie
+use Rattle.calendar.proofs.years.leap.Statement.{statement}
+use Rattle.calendar.proofs.years.leap.Tie as tie
 
 bits-of : (r : ℕ) → r < 400 → ofZ w64 (negℤ (pos r)) ≡ 0 → r ≡ 0
 bits-of zero h e = refl

@@ -1,4 +1,4 @@
--- `calendar::months_before` meets its contract. The sum is of the months passed; the measure is the months left.
+-- `calendar::years::months_before` meets its contract. The sum is of the months passed; the measure is the months left.
 use Prim.Native.Nat.{_≤_, _-_}
 use mathlib.Core.Path.{_≡_, sym, _∙_, ap}
 use native.Mathlib.Numerals.{add-one}
@@ -12,8 +12,8 @@ use Rattle.words.specs.Holds.{Holds, bits, nat, got, add-ok}
 use Rattle.rules.specs.Calendar.{sum as total}
 use Rattle.laws.specs.Rows.{sum-take-suc}
 use Rattle.laws.specs.Calendar.{row, row-days-le, months-before-le}
-use Rattle.calendar.proofs.months_before.Statement.{statement}
-use Rattle.calendar.proofs.months_before.Tie as tie
+use Rattle.calendar.proofs.years.months_before.Statement.{statement}
+use Rattle.calendar.proofs.years.months_before.Tie as tie
 
 abbrev Inv-loop : tie.InvT-loop
 Inv-loop leap months sum₀ k₀ sum k = (k ≤ months) × (sum ≡ total (take k (row leap)))

@@ -1,11 +1,11 @@
--- `calendar::month_days` meets its contract.
+-- `calendar::years::month_days` meets its contract.
 use native.Mathlib.Omega.{arith}
 use mir.Syntax.{w64}
 use mir.Facts.{toZ-pos}
 use borrow.Author.Needs.{needs}
 use Rattle.laws.specs.Calendar.{row-days-le}
-use Rattle.calendar.proofs.month_days.Statement.{statement}
-use Rattle.calendar.proofs.month_days.Tie as tie
+use Rattle.calendar.proofs.years.month_days.Statement.{statement}
+use Rattle.calendar.proofs.years.month_days.Tie as tie
 
 mul-result : tie.Need-mul-result
 mul-result c = search needs

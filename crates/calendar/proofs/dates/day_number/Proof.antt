@@ -1,4 +1,4 @@
--- `calendar::day_number` meets its contract.
+-- `calendar::dates::day_number` meets its contract.
 use mathlib.Core.Path.{_≡_, refl, sym, _∙_, ap}
 use Prim.Native.Nat.{ℕ, _+_, _-_, _<_, _≤_}
 use native.Mathlib.Omega.{arith}
@@ -10,8 +10,8 @@ use Rattle.words.specs.Holds.{Holds, bits, _+ʷ_, _-ʷ_, lit, got, add, add-ok,
 use Rattle.rules.specs.Calendar.{leap, months, sum, years, dayCount}
 use Rattle.laws.specs.Calendar.{row, leap-lt, months-row, months-before-le, years-before-le, months-le}
 use Rattle.laws.specs.DayNumbers.{day-number-is}
-use Rattle.calendar.proofs.day_number.Statement.{statement}
-use Rattle.calendar.proofs.day_number.Tie as tie
+use Rattle.calendar.proofs.dates.day_number.Statement.{statement}
+use Rattle.calendar.proofs.dates.day_number.Tie as tie
 
 module _ (c : tie.Start) where
   abbrev y : ℕ
