@@ -19,7 +19,7 @@ use Rattle.rules.specs.Calendar.{daysPerMonth, leap, months, sum, upFrom, years
 use Rattle.rules.specs.Calendar.{dayCount, dayNumber, Fall, fall, dateOfCount, dateOfNumber}
 use Rattle.rules.specs.Calendar.{yearRefused, monthDays, dayRefused, numberRefused, dayOf, dateOf}
 use Rattle.laws.specs.Every.{every, every-at}
-use Rattle.laws.specs.Ranges.{both-true, InRange, in-range, of-range, yes, true-not-false, _↔_, Between, between-iff}
+use Rattle.laws.specs.Ranges.{both-true, InRange, in-range, of-range, yes, true-not-false, Between, between-iff}
 use Rattle.laws.specs.Ranges.{both-iff}
 use Rattle.laws.specs.Rows.{sum-take-suc, sum-take-le, place-lt, Falls, falls, fall-one}
 

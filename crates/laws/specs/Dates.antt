@@ -1,7 +1,7 @@
 -- UTC dates with their time of day: refusals 1 to 4 given exactly when, and UT and TT within a Julian century.
 use mathlib.Core.Path.{_≡_, refl, sym, ap, _∙_, subst}
 use mathlib.Core.Bool.{Bool, true, false, not, cond, _&&_}
-use mathlib.Core.Logic.{_⊎_, inl, inr, ⊎-elim}
+use mathlib.Core.Logic.{_↔_, _⊎_, inl, inr, ⊎-elim}
 use mathlib.Core.List.{map}
 use Prim.Native.Nat.{ℕ, _+_, _-_, _*_, _≤_, _<_}
 use native.Mathlib.Omega.{arith}
@@ -21,8 +21,8 @@ use Rattle.rules.specs.Units.{century, day, same, between, within}
 use Rattle.rules.specs.Calendar.{dayCount, dayNumber, yearRefused, dayRefused}
 use Rattle.rules.specs.Dates.{steps, taiMinusUtc, beforeStep, lastSecond, timeRefused, msOfDay, utc, utOf, ttOf}
 use Rattle.rules.specs.Dates.{differenceRefused, instants}
-use Rattle.laws.specs.Ranges.{_↔_, true-not-false, both-true, both-iff, refused-iff, accepted-iff}
-use Rattle.laws.specs.Ranges.{Between, between-iff, InRange, in-range, of-range, within-le, same-iff}
+use Rattle.laws.specs.Ranges.{true-not-false, both-true, both-iff, refused-iff, accepted-iff}
+use Rattle.laws.specs.Ranges.{Between, between-iff, InRange, in-range, of-range, same-iff}
 use Rattle.laws.specs.DayNumbers.{YearExists, DayExists, year-refused-iff, year-accepted-iff, day-refused-iff}
 use Rattle.laws.specs.DayNumbers.{day-accepted-iff, RealDate, real-date, day-number-is, real-count-lt}
 use Rattle.laws.specs.Seconds.{OneOf, before-step-iff, tai-le}

@@ -1,6 +1,7 @@
 -- Day numbers of dates, and back, as answers: refused exactly when, and the round trip both ways.
 use mathlib.Core.Path.{_≡_, refl, sym, ap, _∙_, subst}
 use mathlib.Core.Bool.{Bool, true, false, not, cond, _&&_}
+use mathlib.Core.Logic.{_↔_}
 use Prim.Native.Nat.{ℕ, zero, suc, _+_, _-_, _≤_, _<_}
 use native.Mathlib.Omega.{arith}
 use lib.ListN.{getD}
@@ -16,7 +17,7 @@ use Rattle.rules.specs.declared.Refusal.{Refusal}
 use Rattle.rules.specs.Units.{between}
 use Rattle.rules.specs.Calendar.{months, daysBefore2000, dayCount, dayNumber, dateOfCount, dateOfNumber}
 use Rattle.rules.specs.Calendar.{yearRefused, monthDays, dayRefused, numberRefused, dayOf, dateOf}
-use Rattle.laws.specs.Ranges.{_↔_, yes, true-not-false, both-true, both-iff, refused-iff, accepted-iff}
+use Rattle.laws.specs.Ranges.{yes, true-not-false, both-true, both-iff, refused-iff, accepted-iff}
 use Rattle.laws.specs.Ranges.{Between, between-iff, le-of-sizes, InRange, in-range, of-range}
 use Rattle.laws.specs.Calendar.{before-2000, Real, date, day-count-lt, date-of-day-count, Counted, counted}
 

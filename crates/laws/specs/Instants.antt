@@ -16,7 +16,8 @@ use Rattle.rules.specs.declared.Instants.{Instants}
 use Rattle.rules.specs.Units.{century, within}
 use Rattle.rules.specs.Calendar.{dayCount, dayNumber, yearRefused, dayRefused}
 use Rattle.rules.specs.Dates.{taiMinusUtc, timeRefused, differenceRefused, msOfDay, utc, utOf, ttOf, instants}
-use Rattle.laws.specs.Ranges.{Between, between-iff, InRange, in-range, within-le}
+use Rattle.laws.specs.Units.{within-le}
+use Rattle.laws.specs.Ranges.{Between, between-iff, InRange, in-range}
 use Rattle.laws.specs.DayNumbers.{year-accepted-iff, day-accepted-iff, RealDate, real-date, day-number-is}
 use Rattle.laws.specs.DayNumbers.{real-count-lt}
 use Rattle.laws.specs.Seconds.{tai-le}

@@ -1,21 +1,16 @@
--- What the tests `between`, `within` and `same` decide, and what a passed one tells of a number.
-use mathlib.Core.Path.{_≡_, refl, sym, ap, _∙_}
+-- Tests and refusals as propositions: what `between` and `same` decide, and what a passed test tells of a number.
+use mathlib.Core.Path.{_≡_, refl, sym, _∙_}
 use mathlib.Core.Bool.{Bool, true, false, not, _&&_}
-use Prim.Native.Nat.{ℕ, _+_, _≤_, _<_}
+use mathlib.Core.Logic.{_↔_}
+use Prim.Native.Nat.{ℕ, _+_, _≤_}
 use native.Mathlib.Omega.{arith}
 use lib.Dec.{T, le→leb}
-use lib.IntN.{ℤ, pos, negsuc, negℤ, natAbs}
+use lib.IntN.{ℤ, pos, negsuc, natAbs}
 use lib.Signed.{ltZ, leZ, _≤ℤ_}
-use borrow.Author.Tests.{lt-ltb, le-ltb}
-use Rattle.integers.specs.Difference.{posPart, negPart, eq-of-parts, posPart-neg, negPart-neg}
-use Rattle.integers.specs.Difference.{ltZ-false, ltZ-true, leZ-true}
-use Rattle.integers.specs.Size.{abs-le}
-use Rattle.rules.specs.Units.{same, between, within}
-
-infix 0 _↔_
--- exactly when
-abbrev pub _↔_ : Type 0 → Type 0 → Type 0
-A ↔ B = (A → B) × (B → A)
+use borrow.Author.Tests.{le-ltb}
+use Rattle.integers.specs.Difference.{posPart, negPart, ltZ-false, ltZ-true, leZ-true}
+use Rattle.rules.specs.Units.{same, between}
+use Rattle.laws.specs.Units.{between-of, between-parts, same-eq, same-self}
 
 -- ---- truth values
 
@@ -77,23 +72,15 @@ le-test x y = go (leZ x y) (ltZ y x) refl refl
     go false true p q = refl
     go false false p q = sym p ∙ yes (leZ x y) (le-of-sizes x y (ltZ-false y x q) .le)
 
-not-true-is : (b : Bool) → not b ≡ true → b ≡ false
-not-true-is true e = sym e
-not-true-is false e = refl
-
 pub between-iff : (low high z : ℤ) → between low high z ≡ true ↔ Between low high z
-unfolding between
 between-iff low high z = (
   λ e.
-      let u = both-true (not (ltZ z low)) (not (ltZ high z)) e in
-      record {
-        above = le-of-sizes low z (ltZ-false z low (not-true-is _ (u .0)));
-        below = le-of-sizes z high (ltZ-false high z (not-true-is _ (u .1)));
-      },
+      let u = between-parts low high z e in
+      record { above = le-of-sizes low z (u .0); below = le-of-sizes z high (u .1) },
   λ p.
       let a = leZ-true low z (yes _ (p .above .le)) in
       let b = leZ-true z high (yes _ (p .below .le)) in
-      rw (not-lt low z a, not-lt z high b),
+      between-of low high z (not-lt low z a) (not-lt z high b),
 )
 
 -- ---- a range of naturals
@@ -117,23 +104,7 @@ pub of-range : (low high n : ℕ) → low ≤ n → n ≤ high → between (pos 
 unfolding between
 of-range low high n h k = rw (le-ltb n low h, le-ltb high n k)
 
--- ---- within, the same
-
-pub within-le : (n : ℕ) (z : ℤ) → within n z ≡ true → natAbs z ≤ n
-unfolding within
-within-le n z e =
-    let p = between-iff (negℤ (pos n)) (pos n) z .0 e in
-    let a = leZ-true (negℤ (pos n)) z (yes _ (p .above .le)) in
-    let b = leZ-true z (pos n) (yes _ (p .below .le)) in
-    abs-le z n (omega arith) (omega (arith, posPart-neg (pos n), negPart-neg (pos n)))
+-- ---- the same
 
 pub same-iff : (x y : ℤ) → same x y ≡ true ↔ x ≡ y
-unfolding same
-same-iff x y = (
-  λ e.
-      let u = both-true (not (ltZ x y)) (not (ltZ y x)) e in
-      let a = ltZ-false x y (not-true-is _ (u .0)) in
-      let b = ltZ-false y x (not-true-is _ (u .1)) in
-      eq-of-parts x y (omega arith),
-  λ e. rw (e, not-lt y y (omega arith)),
-)
+same-iff x y = (λ e. same-eq x y e, λ e. rw e (same-self y))

@@ -1,7 +1,7 @@
 -- Added seconds: TAI−UTC by the day numbers of the steps, and from a day to the next.
 use mathlib.Core.Path.{_≡_, refl, sym, ap, _∙_, subst}
 use mathlib.Core.Bool.{Bool, true, false, cond, not, _&&_, _||_}
-use mathlib.Core.Logic.{_⊎_, inl, inr, ⊎-elim}
+use mathlib.Core.Logic.{_↔_, _⊎_, inl, inr, ⊎-elim}
 use mathlib.Core.List.{List, [], _∷_, _++_, map}
 use Prim.Native.Nat.{ℕ, zero, suc, _+_, _-_, _*_, _≤_, _<_}
 use native.Mathlib.Omega.{arith}
@@ -18,7 +18,7 @@ use Rattle.rules.specs.Units.{same, −_, +_}
 use Rattle.rules.specs.Calendar.{leap, months, sum, upFrom, years, daysBefore2000, dayCount, dayNumber}
 use Rattle.rules.specs.Dates.{steps, taiMinusUtc, beforeStep}
 use Rattle.laws.specs.Every.{every, every-at}
-use Rattle.laws.specs.Ranges.{_↔_, yes, true-not-false, le-of-sizes, same-iff}
+use Rattle.laws.specs.Ranges.{yes, true-not-false, le-of-sizes, same-iff}
 
 -- ---- the steps as day numbers
 
