@@ -28,3 +28,15 @@ pub mod Polynomials
 pub mod Nutation
 pub mod Sun
 pub mod Sidereal
+-- tests: computed at each number below a bound; of ranges
+pub mod Every
+pub mod Ranges
+-- dates: spans laid end to end, the calendar
+pub mod Rows
+pub mod Calendar
+pub mod DayNumbers
+pub mod Found
+pub mod Seconds
+pub mod Dates
+pub mod Instants
+pub mod Parts
