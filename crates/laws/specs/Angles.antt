@@ -19,7 +19,7 @@ use Rattle.rules.specs.Series.{whole, radian, seriesToHalf, series}
 use Rattle.laws.specs.Near.{UpTo, upTo-le}
 use Rattle.laws.specs.CircleLength.{cosine-range, sine-range, pairOfParts-accepted}
 use Rattle.laws.specs.CircleToHalf.{WithinFour, pairToHalf-near, pairToHalf-is, radianParts-range}
-use Rattle.laws.specs.Folding.{folded-related, Place, place, folded-at, folded-place, lower-half}
+use Rattle.laws.specs.Folding.{to-quarter, folded-related, Place, place, folded-at, folded-place, lower-half}
 use Rattle.laws.specs.Folding.{opposite, folded-circle, folded-quarter, folded-opposite}
 
 -- ---- near the series
@@ -84,8 +84,8 @@ sized-quarter (suc (suc (suc k))) p h = record {
   length = rw (abs-neg (p .cosine)) (record { low = omega (arith, h .length .low); high = omega (arith, h .length .high) });
 }
 
-sized-to-half : (r : ℕ) → r ≤ halfQuarter → Sized (pairToHalf r)
-sized-to-half r h =
+pub pairToHalf-sized : (r : ℕ) → r ≤ halfQuarter → Sized (pairToHalf r)
+pairToHalf-sized r h =
     let x = radianParts (pos r) in
     let i = radianParts-range r h in
     rw (pairToHalf-is r) (record {
@@ -94,9 +94,13 @@ sized-to-half r h =
       length = pairOfParts-accepted x i;
     })
 
+pub pairToQuarter-sized : (r : ℕ) → r < quarter → Sized (pairToQuarter pairToHalf r)
+pairToQuarter-sized r h =
+    to-quarter (λ p q. Sized p) pairToHalf pairToHalf pairToHalf-sized (λ p q. sized-exchanged p) r h
+
 pub pair-sized : (a : ℤ) → Sized (pair a)
 unfolding pair
-pair-sized a = folded-related (λ p q. Sized p) pairToHalf pairToHalf sized-to-half
+pair-sized a = folded-related (λ p q. Sized p) pairToHalf pairToHalf pairToHalf-sized
     (λ p q. sized-exchanged p) (λ k p q. sized-quarter k p) a
 
 -- so a turn by any angle keeps a direction accepted

@@ -7,7 +7,7 @@ use mir.Facts.{and-yes}
 use Prim.Native.Nat.{ℕ, _+_, _*_, _-_, _/_, _≤_, _<_}
 use native.Mathlib.Nat.{mul-le-mul-right, lt-div-mul-add}
 use native.Mathlib.Omega.{arith}
-use lib.Dec.{T, leb, ltb, leb→le, ltb→lt}
+use lib.Dec.{T, leb, ltb, leb→le, ltb→lt, lit≤}
 use lib.IntN.{ℤ, pos, negsuc, natAbs, _-ℤ_, _*ℤ_}
 use Rattle.integers.specs.Difference.{pos-sub}
 use Rattle.integers.specs.Polynomial.{Step, step, numerator, denominator}
@@ -127,6 +127,10 @@ worked-range w (step j k ∷ l) p b hw a i =
     (step-range w p b j k hw i (t .rise) (t .k-pos))
 
 -- ---- the rows of document 01
+
+pub stage-range : (w p : ℤ) (k : ℕ) → UpTo w unit → UpTo p unit → 0 < k → UpTo (stage w k p) unit
+unfolding stage rnd rndSize
+stage-range w p k hw hp hk = step-range w p unit 1 k hw hp (lit≤ tt) hk
 
 -- sine and cosine: 1 − (z / k) p; the arc: 1 / j − z p
 abbrev pub circleSteps : List ℕ → List Step

@@ -87,7 +87,7 @@ module _ (x : ℤ) (hx : UpTo x halfQuarterParts) where
   unfolding squareParts
   square-range = upTo-product x x halfQuarterParts halfQuarterParts unit unit hx hx (lit< tt) (lit≤ tt)
 
-  sine-stages-range : UpTo (stages (squareParts x) sineRow (pos unit)) unit
+  pub sine-stages-range : UpTo (stages (squareParts x) sineRow (pos unit)) unit
   sine-stages-range = rw (stages-worked (squareParts x) sineRow (pos unit))
       (worked-range (squareParts x) (circleSteps sineRow) (pos unit) unit square-range sine-rises unit-upTo)
 

@@ -19,7 +19,7 @@ use Rattle.laws.specs.Modulo.{modulo-lt}
 module _ (R : Pair → Pair → Type 0) (f g : ℕ → Pair)
     (to-half : (r : ℕ) → r ≤ halfQuarter → R (f r) (g r))
     (exchange : (p q : Pair) → R p q → R (exchangedPair p) (exchangedPair q)) where
-  to-quarter : (r : ℕ) → r < quarter → R (pairToQuarter f r) (pairToQuarter g r)
+  pub to-quarter : (r : ℕ) → r < quarter → R (pairToQuarter f r) (pairToQuarter g r)
   unfolding pairToQuarter
   to-quarter r h = by (leb r halfQuarter) (leb→le r halfQuarter) (nleb→lt r halfQuarter)
     where
