@@ -13,7 +13,17 @@ pub mod Chain
 pub mod Series
 pub mod Circle
 pub mod Folding
+pub mod CircleSquares
 pub mod CircleLength
 pub mod CircleToHalf
 pub mod Angles
 pub mod Neighbours
+pub mod Arc
+pub mod Certificates
+pub mod ArcSeries
+pub mod HalfQuarterLess
+pub mod ReadingRange
+pub mod Heights
+pub mod ReadingParts
+pub mod Octant
+pub mod Reading
