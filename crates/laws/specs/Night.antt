@@ -31,7 +31,7 @@ use Rattle.laws.specs.Nutation.{ten-terms}
 -- ---- aberration
 
 -- a constant or a part of at most that, times a part of a pair, by 2^30
-scaled-le : (k c : ℤ) (m : ℕ) → natAbs k ≤ m → natAbs c ≤ unit → natAbs (rnd (k *ℤ c) unit) ≤ m
+pub scaled-le : (k c : ℤ) (m : ℕ) → natAbs k ≤ m → natAbs c ≤ unit → natAbs (rnd (k *ℤ c) unit) ≤ m
 scaled-le k c m hk hc = rnd-under (k *ℤ c) unit m (lit< tt) (rw (abs-mul k c) (omega (arith, mul-le-mul hk hc)))
 
 pub aberrationX-le : (s : Pair) → Sized s → natAbs (aberrationX s) ≤ aberrationConstant
@@ -54,7 +54,7 @@ aberration-le s e hs he = record {
 
 -- ---- the local sidereal angle
 
-sidereal-le : (t : Ut) → natAbs (sidereal t) ≤ circle
+pub sidereal-le : (t : Ut) → natAbs (sidereal t) ≤ circle
 unfolding sidereal
 sidereal-le t = omega (arith, modulo-lt (siderealPolynomial t +ℤ pos 15000 *ℤ pos (modulo (t .0) day)) circle (lit< tt))
 
