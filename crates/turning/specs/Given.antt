@@ -14,16 +14,16 @@ pub record PartFits (part l : ℤ) : Type 0 where
   pub length-pos : pos 0 <ℤ l
   pub length-le : natAbs l ≤ 2 ^ 32
 
+-- a direction whose squares' sum fits, and whose length is not nought
+pub record NotNought (v : Direction) : Type 0 where
+  pub fits : squares v < 2 ^ 63
+  pub length-pos : 0 < root (squares v)
+
 -- l is the length of v, and is not nought
 pub record HasLength (v : Direction) (l : ℤ) : Type 0 where
   pub fits : squares v < 2 ^ 63
   pub length : l ≡ pos (root (squares v))
   pub length-pos : pos 0 <ℤ l
-
--- the length of v fits, and is not nought
-pub record LengthFits (v : Direction) : Type 0 where
-  pub fits : squares v < 2 ^ 63
-  pub some : 0 < root (squares v)
 
 -- a direction and a pair of which a turn is made
 pub record TurnFits (v : Direction) (p : Pair) : Type 0 where

@@ -9,7 +9,7 @@ ghost use mathlib.Core.Bool.{not};
 ghost use Prim.Native.Nat.{_<_, _^_};
 ghost use Rattle.rules.specs.Length.{squares, toLength, broughtToLength};
 ghost use Rattle.rules.specs.Turning.{directionRefused, turnRefused, turnBy, turned};
-ghost use Rattle.turning.specs.Given.{LengthFits, TurnFits};
+ghost use Rattle.turning.specs.Given.{NotNought, TurnFits};
 
 mod axes;
 mod length;
@@ -62,12 +62,13 @@ pub fn to_length(v: Direction) -> Turned
     Turned::To(length::parts_to(v, l))
 }
 
-// v brought to the length 2^30, where its length is known not to be nought.
+// v brought to the length 2^30, where it is known not to be nought.
 //
-// Given: v, whose squares' sum is below 2^63, and not nought.
-// Rule: 01, "bring to length".
+// Given: v, whose squares' sum is from 1 to 2^63 - 1.
+// Returned: Rnd(part * 2^30 / L) of each, L the whole root of the sum.
+// Rule: 01, "The three are then brought to length".
 pub fn brought(v: Direction) -> Direction
-    requires { ⌜ LengthFits v ⌝ }
+    requires { ⌜ NotNought v ⌝ }
     ensures { λ r. ⌜ r ≡ toLength v ⌝ }
 {
     length::parts_to(v, length::length_of(v))
@@ -82,8 +83,7 @@ pub fn turn_by(v: Direction, axis: i64, p: Pair) -> Direction
     requires { ⌜ TurnFits v p ⌝ }
     ensures { λ r. ⌜ r ≡ turnBy axis p v ⌝ }
 {
-    let w = axes::turn_about(v, axis, p);
-    length::parts_to(w, length::length_of(w))
+    brought(axes::turn_about(v, axis, p))
 }
 
 // v turned about an axis by an angle, and brought to length.

@@ -11,7 +11,7 @@ use Rattle.turning.proofs.brought.Statement.{statement}
 use Rattle.turning.proofs.brought.Tie as tie
 
 length-of-requires : tie.Need-length-of-requires
-length-of-requires c κs = c .pre .fits
+length-of-requires c κs = search needs
 
 length-is : (c : tie.After-length-of)
     → toZ w64 (ofZ w64 (c .length-of .result)) ≡ pos (root (squares (c .before .args .v)))
@@ -19,15 +19,15 @@ length-is c = held64 (c .length-of .result) (c .length-of .ok) ∙ c .length-of 
 
 parts-to-requires : tie.Need-parts-to-requires
 parts-to-requires c κs =
-    let v = c .before .args .v in
+    let b = c .before in
     rw (length-is c) (record {
-      fits = c .before .pre .fits;
+      fits = b .pre .fits;
       length = refl;
-      length-pos = record { lt = lt→ltb 0 (root (squares v)) (c .before .pre .some) };
+      length-pos = record { lt = lt→ltb 0 (root (squares (b .args .v))) (b .pre .length-pos) };
     })
 
 returns : tie.Need-returns
-returns c = c .parts-to .ensures
+returns c = search needs
 
 pub brought-spec : {M : Type 1} → statement M
 brought-spec = tie.close (tie.spec length-of-requires parts-to-requires returns)
