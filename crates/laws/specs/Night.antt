@@ -1,8 +1,10 @@
 -- What every night is known by: each pair is accepted, what is added is small, TT is within a century.
-use Prim.Native.Nat.{ℕ, _*_, _≤_}
-use native.Mathlib.Nat.{mul-le-mul}
+use mathlib.Core.Path.{_≡_, refl, subst}
+use mathlib.Core.Bool.{Bool, true, false, not, _&&_}
+use Prim.Native.Nat.{ℕ, _*_, _≤_, _^_}
+use native.Mathlib.Nat.{mul-le-mul, le-trans}
 use native.Mathlib.Omega.{arith}
-use lib.Dec.{lit<}
+use lib.Dec.{T, lit<, lit≤}
 use lib.IntN.{ℤ, pos, natAbs, _+ℤ_, _*ℤ_}
 use Rattle.integers.specs.Size.{abs-add, abs-mul, abs-neg}
 use Rattle.rules.specs.declared.Ut.{Ut}
@@ -10,22 +12,24 @@ use Rattle.rules.specs.declared.Tt.{Tt}
 use Rattle.rules.specs.declared.Pair.{Pair}
 use Rattle.rules.specs.declared.Site.{Site}
 use Rattle.rules.specs.declared.Night.{Night}
-use Rattle.rules.specs.Units.{circle, half, day, unit}
+use Rattle.rules.specs.Units.{circle, half, quarter, day, unit, within}
 use Rattle.rules.specs.Rounding.{rnd, modulo}
 use Rattle.rules.specs.Length.{pairSquares}
 use Rattle.rules.specs.Circle.{pair}
 use Rattle.rules.specs.Turning.{Accepted}
-use Rattle.rules.specs.Polynomials.{obliquity}
+use Rattle.rules.specs.Polynomials.{obliquityRow, obliquity}
 use Rattle.rules.specs.Nutation.{nutation}
 use Rattle.rules.specs.Sun.{sunLongitude}
 use Rattle.rules.specs.Sidereal.{sidereal, siderealPolynomial}
-use Rattle.rules.specs.Night.{aberrationConstant, aberrationX, aberrationY, aberration, localSidereal, night}
+use Rattle.rules.specs.Night.{aberrationConstant, aberrationX, aberrationY, aberration, localSidereal, siteRefused, night}
+use Rattle.laws.specs.Units.{within-le}
 use Rattle.laws.specs.Rounding.{rnd-under}
 use Rattle.laws.specs.Modulo.{modulo-lt}
 use Rattle.laws.specs.Angles.{Sized, pair-sized, pair-length}
 use Rattle.laws.specs.Directions.{PartsLe}
 use Rattle.laws.specs.Aberration.{mostAdded}
 use Rattle.laws.specs.Instant.{InRange}
+use Rattle.laws.specs.Polynomials.{polynomial-le}
 use Rattle.laws.specs.Nutation.{ten-terms}
 
 -- ---- aberration
@@ -71,6 +75,32 @@ localSidereal-le ut tt site h hs =
       scaled-le (nutation tt .longitude) (pair (obliquity tt) .cosine) 19325980
           (ten-terms tt h .longitude-le) (pair-sized (obliquity tt) .cosine-le),
     )
+
+-- ---- a site that is not refused
+
+pub record SiteRanges (s : Site) : Type 0 where
+  pub latitude-le : natAbs (s .latitude) ≤ quarter
+  pub longitude-le : natAbs (s .longitude) ≤ half
+
+pub site-ranges : (s : Site) → siteRefused s ≡ false → SiteRanges s
+unfolding siteRefused
+site-ranges s e =
+    let k = both (within quarter (s .latitude)) (within half (s .longitude)) e in
+    record {
+      latitude-le = within-le quarter (s .latitude) (k .0);
+      longitude-le = within-le half (s .longitude) (k .1);
+    }
+  where
+    both : (a b : Bool) → not (a && b) ≡ false → (a ≡ true) × (b ≡ true)
+    both true true e = (refl, refl)
+    both true false e = absurd (subst T e tt)
+    both false b e = absurd (subst T e tt)
+
+-- ---- the obliquity
+
+pub obliquity-le : (t : Tt) → InRange (t .0) → natAbs (obliquity t) ≤ 2 ^ 40
+unfolding obliquity
+obliquity-le t h = le-trans (polynomial-le obliquityRow (t .0) h) (lit≤ tt)
 
 -- ---- a night
 

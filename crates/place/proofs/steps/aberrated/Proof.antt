@@ -25,7 +25,7 @@ brought-requires c κs =
     let small = start .pre .night .aberration in
     rw (c .sum .ensures) (record {
       fits = omega (arith, plus-fits v a (start .pre .direction) small);
-      some = omega (arith, plus-root-ge v a (start .pre .direction) small);
+      length-pos = omega (arith, plus-root-ge v a (start .pre .direction) small);
     })
 
 returns : tie.Need-returns
