@@ -6,3 +6,4 @@ pub mod Rounding
 pub mod Product
 pub mod Root
 pub mod Modulo
+pub mod Bytes
