@@ -1,6 +1,6 @@
 -- Numbers in bytes, little-endian, by one law over the width: a number's bytes are read as that number, and what bytes
 -- are read as is written as those bytes. Then a byte at a time, from the last one down and from the lowest one up.
-use mathlib.Core.Path.{_≡_, refl, sym, _∙_, ap, subst}
+use mathlib.Core.Path.{_≡_, refl, sym, _∙_, ap}
 use mathlib.Core.Bool.{Bool, true, false, cond}
 use mathlib.Core.List.{List, [], _∷_, _++_}
 use Prim.Native.Nat.{ℕ, zero, suc, _+_, _*_, _-_, _/_, _%_, _^_, _<_, _≤_}
@@ -8,12 +8,12 @@ use native.Mathlib.Omega.{arith}
 use native.Mathlib.Nat.{lt-irrefl, pow-suc}
 use native.Mathlib.Numerals.{add-one}
 use lib.ListN.{length, getD, take, drop, length-drop}
-use lib.Seq.{drop-cons, getD-drop, length-take-le}
+use lib.Seq.{drop-cons, drop-drop, getD-drop, length-take-le, take-add, take-at, drop-at}
 use lib.Dec.{ltb}
 use lib.IntN.{ℤ, pos, negsuc, _+ℤ_, _*ℤ_}
 use lib.Signed.{mag, shrZ}
 use borrow.Author.Tests.{lt-ltb, le-ltb, ltb-true, ltb-false}
-use Rattle.integers.specs.Difference.{posPart, negPart, eq-of-parts, subℕ-is, sub-is, add-is, mul-is}
+use Rattle.integers.specs.Difference.{posPart, negPart, eq-of-parts, sub-is, add-is, mul-is}
 use Rattle.rules.specs.Rounding.{modulo}
 use Rattle.rules.specs.Bytes.{ofBytes, bytesOf, signedOf, unsignedOf, part, unsignedAt, signedAt, signedBytes}
 
@@ -156,6 +156,40 @@ unsigned-none at file = refl
 pub signedAt-width : (at k : ℕ) (file : List ℕ) → Bytes file → at + suc k ≤ length file → OfWidth k (signedAt at (suc k) file)
 unfolding signedAt
 signedAt-width at k file byte l = signed-width k (unsignedAt at (suc k) file) (part-lt at (suc k) file byte l)
+
+-- two parts that follow each other
+pub part-part : (at n m : ℕ) (file : List ℕ) → part at n file ++ part (at + n) m file ≡ part at (n + m) file
+unfolding part
+part-part at n m file = rw (← drop-drop n at file, take-add n m (drop at file))
+
+-- a part that stands after `before`
+pub part-after : (before bytes rest : List ℕ) (at count : ℕ) → length before ≡ at → length bytes ≡ count
+    → part at count (before ++ (bytes ++ rest)) ≡ bytes
+unfolding part
+part-after before bytes rest at count e f =
+    ap (take count) (drop-at before (bytes ++ rest) at e) ∙ take-at bytes rest count f
+
+-- the bytes of what is read in a file are those of the file
+pub bytesOf-at : (at count : ℕ) (file : List ℕ) → Bytes file → at + count ≤ length file
+    → bytesOf count (unsignedAt at count file) ≡ part at count file
+unfolding unsignedAt
+bytesOf-at at count file byte l =
+    rw (part-length at count file l) at (bytesOf-ofBytes (part at count file) (part-bytes at count file byte))
+
+pub signedBytes-at : (at count : ℕ) (file : List ℕ) → Bytes file → at + count ≤ length file
+    → signedBytes count (signedAt at count file) ≡ part at count file
+unfolding signedAt unsignedAt
+signedBytes-at at count file byte l =
+    rw (part-length at count file l) at (bytes-again (part at count file) (part-bytes at count file byte))
+
+-- and what is written in a file is read there
+pub signedAt-after : (before rest : List ℕ) (z : ℤ) (at k : ℕ) → length before ≡ at → OfWidth k z
+    → signedAt at (suc k) (before ++ (signedBytes (suc k) z ++ rest)) ≡ z
+unfolding signedAt unsignedAt
+signedAt-after before rest z at k e l =
+    ap (λ bs. signedOf (suc k) (ofBytes bs))
+    (part-after before (signedBytes (suc k) z) rest at (suc k) e (signed-length (suc k) z))
+    ∙ signed-again k z l
 
 -- ---- a byte at a time
 

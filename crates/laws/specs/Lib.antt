@@ -7,3 +7,4 @@ pub mod Product
 pub mod Root
 pub mod Modulo
 pub mod Bytes
+pub mod StarList
