@@ -7,4 +7,5 @@ pub mod Product
 pub mod Root
 pub mod Modulo
 pub mod Bytes
+pub mod Records
 pub mod StarList

@@ -1,29 +1,30 @@
 -- The star list file: how long it is, when it is refused, that a refusal leaves lent memory as it was, and the round
 -- trip both ways.
 use mathlib.Core.Path.{_≡_, refl, sym, _∙_, ap}
-use mathlib.Core.Bool.{Bool, true, false, cond, _&&_, _||_, false≢true}
+use mathlib.Core.Bool.{Bool, true, false, not, cond, _&&_, _||_, false≢true}
 use mathlib.Core.List.{List, [], _∷_, _++_, map, foldr, append-assoc, append-nil}
 use Prim.Native.Nat.{ℕ, zero, suc, _+_, _*_, _-_, _/_, _%_, _<_, _≤_}
 use native.Mathlib.Omega.{arith}
-use lib.ListN.{length, take, drop, length-append, length-map, length-drop}
+use lib.ListN.{length, getD, take, drop, length-append, length-map, length-drop}
 use lib.Seq.{drop-at, take-at, take-add, take-all}
 use lib.Dec.{eqb, ltb}
 use lib.IntN.{ℤ, pos, negsuc, natAbs}
 use lib.Signed.{mag}
-use borrow.Author.Tests.{eqb-true, eq-eqb, leb-true, le-leb, ltb-false, lt-ltb, le-ltb, not-false}
+use borrow.Author.Tests.{eqb-true, eq-eqb, ne-eqb, leb-true, le-leb, lt-leb, ltb-false, lt-ltb, le-ltb, not-false}
 use Rattle.rules.specs.declared.Star.{Star}
 use Rattle.rules.specs.declared.Entry.{Entry}
 use Rattle.rules.specs.declared.Refusal.{Refusal}
 use Rattle.rules.specs.declared.Listed.{Listed}
-use Rattle.rules.specs.Units.{circle, quarter, between}
+use Rattle.rules.specs.Units.{circle, quarter, between, within}
 use Rattle.rules.specs.Place.{mostMotion, starRefused}
 use Rattle.rules.specs.Bytes.{part, unsignedAt, signedAt, bytesOf, signedBytes, sameBytes, ofBytes}
 use Rattle.rules.specs.StarList.{mark, countIn, fileLength, starIn, recordOf, starsIn, stars, anyRefused, markRefused}
 use Rattle.rules.specs.StarList.{countRefused, listCount, readInto, listRead, freshEntry, leaving, entriesAfterRead, starsOf}
 use Rattle.rules.specs.StarList.{fileOf, roomRefused, writtenOf, listWritten, roomAfterWrite, numbersWritten, roomAfterNumbers}
+use Rattle.laws.specs.Records.{or-false}
 use Rattle.laws.specs.Units.{between-parts, within-le}
 use Rattle.laws.specs.Bytes.{Bytes, OfWidth, drop-bytes, part-part, bytesOf-at, signedBytes-at}
-use Rattle.laws.specs.Bytes.{signedAt-after, signed-length}
+use Rattle.laws.specs.Bytes.{part-cons, part-none, signedAt-after, signed-length}
 
 -- ---- lengths
 
@@ -103,6 +104,22 @@ headed file e =
       version = eqb-true (unsignedAt 3 2 file) 1 (k .1);
     }
 
+pub mark-short : (file : List ℕ) → length file < 7 → markRefused file ≡ true
+unfolding markRefused
+mark-short file l = let short = lt-leb 7 (length file) l in rw short
+
+-- the tests of a file of seven bytes and more, one by one
+pub mark-long : (file : List ℕ) → 7 ≤ length file
+    → markRefused file ≡ not (eqb (getD file 0 0) 83 && (eqb (getD file 1 0) 76 && (eqb (getD file 2 0) 84 && true))
+    && eqb (unsignedAt 3 2 file) 1)
+unfolding markRefused sameBytes
+mark-long file l =
+    let long = le-leb 7 (length file) l in
+    let three : part 0 3 file ≡ getD file 0 0 ∷ getD file 1 0 ∷ getD file 2 0 ∷ [] =
+    part-cons 0 2 file (omega arith) ∙ ap (λ r. getD file 0 0 ∷ r) (part-cons 1 1 file (omega arith))
+    ∙ ap (λ r. getD file 0 0 ∷ getD file 1 0 ∷ r) (part-cons 2 0 file (omega arith) ∙ ap (λ r. getD file 2 0 ∷ r) (part-none 3 file)) in
+    rw (long, three)
+
 -- a file that is not refused 10
 pub record Counted (file : List ℕ) : Type 0 where
   pub few : countIn file ≤ 64
@@ -113,6 +130,24 @@ unfolding countRefused
 counted file e =
     let k = and-true _ _ (not-false _ e) in
     record { few = leb-true (countIn file) 64 (k .0); size = eqb-true (length file) (fileLength (countIn file)) (k .1) }
+
+pub count-many : (file : List ℕ) → 64 < countIn file → countRefused file ≡ true
+unfolding countRefused
+count-many file l = let many = lt-leb (countIn file) 64 l in rw many
+
+pub count-fails : (file : List ℕ) → countIn file ≤ 64 → (length file ≡ fileLength (countIn file) → ⊥) → countRefused file ≡ true
+unfolding countRefused
+count-fails file l h =
+    let few = le-leb (countIn file) 64 l in
+    let other = ne-eqb (length file) (fileLength (countIn file)) h in
+    rw (few, other)
+
+pub count-passes : (file : List ℕ) → countIn file ≤ 64 → length file ≡ fileLength (countIn file) → countRefused file ≡ false
+unfolding countRefused
+count-passes file l h =
+    let few = le-leb (countIn file) 64 l in
+    let same = eq-eqb (length file) (fileLength (countIn file)) h in
+    rw (few, same)
 
 -- ---- the answers, exactly when: 9, 10, 5, then 11
 
@@ -139,6 +174,17 @@ unfolding listCount
 file-accepted file count e =
     let k = count-chain (markRefused file) (countRefused file) (anyRefused (stars file)) (countIn file) count e in
     record { not-9 = k .0; not-10 = k .1 .0; not-5 = k .1 .1 .0; count-is = k .1 .1 .1 }
+
+-- and is as long as its count says
+pub accepted-size : (file : List ℕ) (count : ℕ) → listCount file ≡ Listed.Count count → length file ≡ fileLength count
+accepted-size file count e =
+    let ok = file-accepted file count e in
+    counted file (ok .not-10) .size ∙ ap fileLength (sym (ok .count-is))
+
+pub accepted-few : (file : List ℕ) (count : ℕ) → listCount file ≡ Listed.Count count → count ≤ 64
+accepted-few file count e =
+    let ok = file-accepted file count e in
+    omega (arith, counted file (ok .not-10) .few, ok .count-is)
 
 pub file-refused-9 : (file : List ℕ) → markRefused file ≡ true → listCount file ≡ Listed.Refused Refusal.Mark
 unfolding listCount
@@ -317,10 +363,6 @@ pub record StarFits (s : Star) : Type 0 where
   pub ra-motion-fits : OfWidth 3 (s .«ra_motion»)
   pub declination-motion-fits : OfWidth 3 (s .«declination_motion»)
 
-or-false : (a b : Bool) → a || b ≡ false → (a ≡ false) × (b ≡ false)
-or-false true b e = absurd (false≢true (sym e))
-or-false false b e = (refl, e)
-
 small : (z : ℤ) (n : ℕ) → natAbs z ≤ n → mag z ≤ n
 small (pos m) n l = l
 small (negsuc m) n l = omega (arith, l)
@@ -333,9 +375,9 @@ upward (negsuc m) n e = let k = between-parts (pos 0) (pos n) (negsuc m) e in ab
 pub star-fits : (s : Star) → starRefused s ≡ false → StarFits s
 unfolding starRefused
 star-fits s e =
-    let k = and-true _ _ (not-false _ e) in
-    let l = and-true _ _ (k .0) in
-    let m = and-true _ _ (l .0) in
+    let k = and-true _ (within mostMotion (s .«declination_motion»)) (not-false _ e) in
+    let l = and-true _ (within mostMotion (s .«ra_motion»)) (k .0) in
+    let m = and-true (between (pos 0) (pos (circle - 1)) (s .ra)) (within quarter (s .declination)) (l .0) in
     record {
       ra-fits = omega (arith, upward (s .ra) (circle - 1) (m .0));
       declination-fits = omega (arith, small (s .declination) quarter (within-le quarter (s .declination) (m .1)));
@@ -412,13 +454,9 @@ mark-again : (ss : List Star) → markRefused (fileOf ss) ≡ false
 mark-again ss = ap markRefused (file-is ss) ∙ head-again (length ss) (records ss)
 
 count-kept : (ss : List Star) → length ss ≤ 64 → countRefused (fileOf ss) ≡ false
-unfolding countRefused
 count-kept ss l =
     let count = count-again ss l in
-    let few = le-leb (countIn (fileOf ss)) 64 (omega (arith, count, l)) in
-    let size = eq-eqb (length (fileOf ss)) (fileLength (countIn (fileOf ss)))
-    (file-length ss ∙ ap fileLength (sym count)) in
-    rw (few, size)
+    count-passes (fileOf ss) (omega (arith, count, l)) (file-length ss ∙ ap fileLength (sym count))
 
 stars-kept : (ss : List Star) → length ss ≤ 64 → AllFit ss → stars (fileOf ss) ≡ ss
 unfolding stars
