@@ -21,7 +21,8 @@ use Rattle.rules.specs.Bytes.{part, unsignedAt, signedAt, bytesOf, signedBytes,
 use Rattle.rules.specs.StarList.{mark, countIn, fileLength, starIn, recordOf, starsIn, stars, anyRefused, markRefused}
 use Rattle.rules.specs.StarList.{countRefused, listCount, readInto, listRead, freshEntry, leaving, entriesAfterRead, starsOf}
 use Rattle.rules.specs.StarList.{fileOf, roomRefused, writtenOf, listWritten, roomAfterWrite, numbersWritten, roomAfterNumbers}
-use Rattle.laws.specs.Records.{or-false}
+use Rattle.rules.specs.StarList.{starFrom, countFrom, numberStars, rowRefused}
+use Rattle.laws.specs.Records.{or-false, starsFrom-each, each-length}
 use Rattle.laws.specs.Units.{between-parts, within-le}
 use Rattle.laws.specs.Bytes.{Bytes, OfWidth, drop-bytes, part-part, bytesOf-at, signedBytes-at}
 use Rattle.laws.specs.Bytes.{part-cons, part-none, signedAt-after, signed-length}
@@ -525,3 +526,53 @@ written-then-read entries room size e others l =
           ∙ read-counted (fileOf ss) others (length entries) (file-kept ss few (ok .not-5) ∙ ap Listed.Count count) l,
       ap stars file ∙ stars-kept ss few (all-fit ss (ok .not-5)),
     )
+
+-- ---- a row of numbers, four to a star
+
+pub numbers-refused-5 : (numbers : List ℤ) (room : List ℕ) → anyRefused (numberStars numbers) ≡ true
+    → numbersWritten numbers room ≡ Listed.Refused Refusal.Star
+unfolding numbersWritten writtenOf
+numbers-refused-5 numbers room a = rw a
+
+pub numbers-refused-11 : (numbers : List ℤ) (room : List ℕ) → anyRefused (numberStars numbers) ≡ false
+    → rowRefused numbers (length room) ≡ true → numbersWritten numbers room ≡ Listed.Refused Refusal.Room
+unfolding numbersWritten writtenOf
+numbers-refused-11 numbers room a b = rw (a, b)
+
+pub numbers-counted : (numbers : List ℤ) (room : List ℕ) → anyRefused (numberStars numbers) ≡ false
+    → rowRefused numbers (length room) ≡ false → numbersWritten numbers room ≡ Listed.Count (fileLength (countFrom numbers))
+unfolding numbersWritten
+numbers-counted numbers room a b = writes-case (anyRefused (numberStars numbers)) _ (countFrom numbers) a b
+
+-- the last star has not all its numbers
+pub row-uneven : (numbers : List ℤ) (room : ℕ) → (length numbers % 4 ≡ 0 → ⊥) → rowRefused numbers room ≡ true
+unfolding rowRefused
+row-uneven numbers room h = let uneven = ne-eqb (length numbers % 4) 0 h in rw uneven
+
+pub row-even : (numbers : List ℤ) (room : ℕ) → length numbers % 4 ≡ 0
+    → rowRefused numbers room ≡ roomRefused (countFrom numbers) room
+unfolding rowRefused
+row-even numbers room h = let even = eq-eqb (length numbers % 4) 0 h in rw even
+
+pub room-many : (count room : ℕ) → 64 < count → roomRefused count room ≡ true
+unfolding roomRefused
+room-many count room l = let many = lt-ltb 64 count l in rw many
+
+pub room-small : (count room : ℕ) → count ≤ 64 → room < fileLength count → roomRefused count room ≡ true
+unfolding roomRefused
+room-small count room l h =
+    let few = le-ltb 64 count l in
+    let small = lt-ltb room (fileLength count) h in
+    rw (few, small)
+
+pub room-enough : (count room : ℕ) → count ≤ 64 → fileLength count ≤ room → roomRefused count room ≡ false
+unfolding roomRefused
+room-enough count room l h =
+    let few = le-ltb 64 count l in
+    let enough = le-ltb room (fileLength count) h in
+    rw (few, enough)
+
+pub number-count : (numbers : List ℤ) → length (numberStars numbers) ≡ countFrom numbers
+unfolding numberStars
+number-count numbers =
+    ap length (starsFrom-each (countFrom numbers) numbers) ∙ each-length starFrom 4 (countFrom numbers) numbers

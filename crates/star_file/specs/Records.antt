@@ -1,16 +1,17 @@
 -- Records as they are written, number by number: how long they are, and that accepted stars are written so.
 use mathlib.Core.Path.{_≡_, refl, sym, _∙_, ap}
 use mathlib.Core.List.{List, [], _∷_, _++_, foldr, append-assoc, append-nil}
-use Prim.Native.Nat.{ℕ, _+_, _*_}
+use Prim.Native.Nat.{ℕ, _+_, _*_, _≤_}
 use native.Mathlib.Omega.{arith}
 use lib.ListN.{length, getD, drop, length-append}
 use lib.Seq.{getD-drop}
 use lib.IntN.{ℤ, pos}
 use Rattle.rules.specs.declared.Star.{Star}
-use Rattle.rules.specs.StarList.{recordOf, starFrom}
+use Rattle.rules.specs.StarList.{fileLength, recordOf, fileOf, starFrom}
 use Rattle.laws.specs.Bytes.{lowBytes, low-bytes, low-length}
-use Rattle.laws.specs.StarList.{StarFits, AllFit, records}
+use Rattle.laws.specs.StarList.{StarFits, AllFit, records, headOf, file-is, file-length}
 use Rattle.stars.specs.Numbers.{starOf}
+use Rattle.star_file.specs.Puts.{put, put-before, put-first}
 
 -- the lowest bytes of a star's four numbers
 unfoldable pub lowRecord : Star → List ℕ
@@ -79,3 +80,13 @@ row-star at numbers =
     let ra-motion = sym (getD-drop at numbers 2 (pos 0)) in
     let declination-motion = sym (getD-drop at numbers 3 (pos 0)) in
     λ i. starOf (ra i) (declination i) (ra-motion i) (declination-motion i)
+
+-- records put after the head's place, and then the head: the file, and what stood past it
+pub file-put : (ss : List Star) (room : List ℕ) (count : ℕ) → length ss ≡ count → AllFit ss → fileLength count ≤ length room
+    → put (put room 7 (lowRecords ss)) 0 (headOf count) ≡ fileOf ss ++ drop (fileLength count) room
+unfolding fileLength
+file-put ss room count e fits l =
+    let long = low-records-length ss in
+    put-before room 7 (headOf count) (lowRecords ss) refl (omega (arith, long, e, l))
+    ∙ ap (put room 0) ((λ i. headOf (sym e i) ++ low-records ss fits i) ∙ sym (file-is ss))
+    ∙ put-first room (fileOf ss) (fileLength count) (file-length ss ∙ ap fileLength e)
