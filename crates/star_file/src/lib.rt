@@ -1,6 +1,7 @@
 // The star list file, byte by byte: what reads and writes it with plain numbers and byte slices.
 
 use rules::Listed;
+ghost use mathlib.Core.Path.{_≡_};
 
 pub mod numbers;
 pub mod reading;
@@ -10,4 +11,11 @@ pub mod writing;
 pub struct Plan {
     pub answer: Listed,
     pub todo: usize,
+}
+
+// The answer of a plan.
+pub fn answer_of(plan: Plan) -> Listed
+    ensures { λ r. ⌜ r ≡ plan .answer ⌝ }
+{
+    plan.answer
 }

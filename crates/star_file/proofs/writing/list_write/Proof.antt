@@ -109,13 +109,12 @@ returns-5 c =
     let a = c .before .before .before .before .before .before .before .before .before .before .before .before .before .before .args in
     let row = a .numbers .now in
     let room = a .room .now in
-    let answer = numbers-counted row room (accepted (c .before .before .before .before .before .before .before .before .before .before .before)) (fits else) in
-    (
+    let answer = numbers-counted row room (accepted (c .before .before .before .before .before .before .before .before .before .before .before)) (fits else) in (
       sym answer,
       writes row room (c .before .before .put-head .last .0) answer
-      (c .before .before .put-head .ensures ∙ ap (λ r. put r 0 (headOf (countFrom row))) (c .before .before .before .before .before .before .put-stars .ensures)
-      ∙ file-put (numberStars row) room (countFrom row) (number-count row)
-      (all-fit (numberStars row) (accepted (c .before .before .before .before .before .before .before .before .before .before .before))) (else .if4 .left)),
+          (c .before .before .put-head .ensures ∙ ap (λ r. put r 0 (headOf (countFrom row))) (c .before .before .before .before .before .before .put-stars .ensures)
+          ∙ file-put (numberStars row) room (countFrom row) (number-count row)
+          (all-fit (numberStars row) (accepted (c .before .before .before .before .before .before .before .before .before .before .before))) (else .if4 .left)),
     )
 
 pub list-write-spec : {M : Type 1} → statement M
