@@ -55,12 +55,6 @@ pub mod Seconds
 pub mod Dates
 pub mod Instants
 pub mod Parts
-pub mod Arc
-pub mod Certificates
-pub mod ArcSeries
-pub mod HalfQuarterLess
-pub mod ReadingRange
-pub mod Heights
-pub mod ReadingParts
-pub mod Octant
-pub mod Reading
+pub mod Bytes
+pub mod Records
+pub mod StarList

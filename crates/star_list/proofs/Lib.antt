@@ -1,0 +1,3 @@
+-- what the walks need of lists and plans
+pub mod Lists
+pub mod Reading
