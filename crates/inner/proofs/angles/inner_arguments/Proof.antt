@@ -16,7 +16,8 @@ argued-out-requires c κs = search needs
 returns : tie.Need-returns
 returns c =
     c .argued-out .ensures
-    ∙ ap (λ a. innerArgued (arguedAnswer a)) (rw (toZ-ofZ (c .before .before .fits .tt)) at (c .before .arguments .ensures))
+    ∙ ap (λ a. innerArgued (arguedAnswer a))
+    (rw (toZ-ofZ (c .before .before .fits .tt)) at (c .before .arguments .ensures))
 
 pub inner-arguments-spec : {M : Type 1} → statement M
 inner-arguments-spec = tie.close (tie.spec arguments-requires argued-out-requires returns)

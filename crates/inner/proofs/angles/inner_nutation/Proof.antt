@@ -16,7 +16,8 @@ nutated-out-requires c κs = search needs
 returns : tie.Need-returns
 returns c =
     c .nutated-out .ensures
-    ∙ ap (λ a. innerNutated (nutatedAnswer a)) (rw (toZ-ofZ (c .before .before .fits .tt)) at (c .before .nutation .ensures))
+    ∙ ap (λ a. innerNutated (nutatedAnswer a))
+    (rw (toZ-ofZ (c .before .before .fits .tt)) at (c .before .nutation .ensures))
 
 pub inner-nutation-spec : {M : Type 1} → statement M
 inner-nutation-spec = tie.close (tie.spec nutation-requires nutated-out-requires returns)

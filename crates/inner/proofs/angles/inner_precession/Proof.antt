@@ -16,7 +16,8 @@ precessed-out-requires c κs = search needs
 returns : tie.Need-returns
 returns c =
     c .precessed-out .ensures
-    ∙ ap (λ a. innerPrecessed (precessedAnswer a)) (rw (toZ-ofZ (c .before .before .fits .tt)) at (c .before .precession .ensures))
+    ∙ ap (λ a. innerPrecessed (precessedAnswer a))
+    (rw (toZ-ofZ (c .before .before .fits .tt)) at (c .before .precession .ensures))
 
 pub inner-precession-spec : {M : Type 1} → statement M
 inner-precession-spec = tie.close (tie.spec precession-requires precessed-out-requires returns)
