@@ -1,7 +1,7 @@
 -- What the inner functions are given: conditions on their numbers, cited by `requires`.
 use mathlib.Core.Path.{_≡_}
 use mathlib.Core.Bool.{false}
-use Prim.Native.Nat.{_≤_, _^_}
+use Prim.Native.Nat.{_+_, _≤_, _^_}
 use lib.IntN.{ℤ, natAbs}
 use Rattle.rules.specs.declared.Ut.{Ut}
 use Rattle.rules.specs.declared.Tt.{Tt}
@@ -55,3 +55,8 @@ pub record SiteFits (ut : Ut) (tt : Tt) (site : Site) : Type 0 where
   pub ut-in : InRange (ut .0)
   pub tt-in : InRange (tt .0)
   pub accepted : siteRefused site ≡ false
+
+-- two parts of an accepted direction, or their opposites
+pub record PartsFit (h v : ℤ) : Type 0 where
+  pub h-le : natAbs h ≤ unit + 1
+  pub v-le : natAbs v ≤ unit + 1
