@@ -1,4 +1,4 @@
--- `circle::in_quarter` meets its contract.
+-- `circle::quarters::in_quarter` meets its contract.
 use mathlib.Core.Path.{_≡_, sym, _∙_}
 use Prim.Native.Nat.{ℕ, _+_, _≤_}
 use native.Mathlib.Omega.{arith}
@@ -8,8 +8,8 @@ use Rattle.rules.specs.Circle.{inQuarter}
 use Rattle.laws.specs.Near.{upTo-le}
 use Rattle.words.specs.Holds.{Holds, bits, _-ʷ_, arg, lit, sub, sub-ok}
 use Rattle.circle.specs.Bits.{size-of-bits}
-use Rattle.circle.proofs.in_quarter.Statement.{statement}
-use Rattle.circle.proofs.in_quarter.Tie as tie
+use Rattle.circle.proofs.quarters.in_quarter.Statement.{statement}
+use Rattle.circle.proofs.quarters.in_quarter.Tie as tie
 
 c-holds : (c : tie.Start) → Holds (bits (c .args .c)) (c .args .c) unit
 c-holds c = arg (c .args .c) (c .pre .cosine-le) tt

@@ -1,4 +1,4 @@
--- `circle::pair_to_half` meets its contract.
+-- `circle::quarters::pair_to_half` meets its contract.
 use mathlib.Core.Path.{_≡_, sym, ap, _∙_}
 use mathlib.Core.Bool.{true, false}
 use lib.Dec.{eqb}
@@ -11,8 +11,8 @@ use Rattle.laws.specs.Circle.{halfQuarterParts}
 use Rattle.laws.specs.CircleToHalf.{radianParts-range}
 use Rattle.words.specs.Holds.{Holds, bits, arg, got}
 use Rattle.circle.specs.Bits.{size-of-bits}
-use Rattle.circle.proofs.pair_to_half.Statement.{statement}
-use Rattle.circle.proofs.pair_to_half.Tie as tie
+use Rattle.circle.proofs.quarters.pair_to_half.Statement.{statement}
+use Rattle.circle.proofs.quarters.pair_to_half.Tie as tie
 
 r-holds : (c : tie.Start) → Holds (bits (c .args .r)) (c .args .r) halfQuarter
 r-holds c = arg (c .args .r) (upTo-le (c .args .r) halfQuarter (c .pre)) tt
@@ -27,7 +27,8 @@ x-range : (c : tie.Start) → UpTo (rule.radianParts (pos (natAbs (c .args .r)))
 x-range c = radianParts-range (natAbs (c .args .r)) (r-holds c .size)
 
 x-holds : (c : tie.After-radian-parts)
-    → Holds (bits (c .radian-parts .result)) (rule.radianParts (pos (natAbs (c .before .before .args .r)))) halfQuarterParts
+    → Holds (bits (c .radian-parts .result))
+    (rule.radianParts (pos (natAbs (c .before .before .args .r)))) halfQuarterParts
 x-holds c =
     let b = c .before .before in
     got (rw (r-holds b .value) at (c .radian-parts .ensures) ∙ ap rule.radianParts (r-is b))

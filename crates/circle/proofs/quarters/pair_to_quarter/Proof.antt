@@ -1,4 +1,4 @@
--- `circle::pair_to_quarter` meets its contract.
+-- `circle::quarters::pair_to_quarter` meets its contract.
 use mathlib.Core.Path.{_≡_, ap}
 use Prim.Native.Nat.{ℕ, _-_, _≤_, _<_}
 use native.Mathlib.Omega.{arith}
@@ -10,8 +10,8 @@ use Rattle.laws.specs.Near.{upTo-pos, upTo-is, upTo-le}
 use Rattle.laws.specs.Folding.{lower-half, upper-half}
 use Rattle.laws.specs.Angles.{pairToHalf-sized}
 use Rattle.words.specs.Holds.{Holds, bits, _-ʷ_, got, lit, sub-nat, sub-nat-ok}
-use Rattle.circle.proofs.pair_to_quarter.Statement.{statement}
-use Rattle.circle.proofs.pair_to_quarter.Tie as tie
+use Rattle.circle.proofs.quarters.pair_to_quarter.Statement.{statement}
+use Rattle.circle.proofs.quarters.pair_to_quarter.Tie as tie
 
 abbrev size : tie.Start → ℕ
 size c = natAbs (c .args .r)
@@ -57,7 +57,8 @@ half-is : (c : tie.After-pair-to-half2)
 half-is c = rw (rest-holds (c .before .before) .value) at (c .pair-to-half2 .ensures)
 
 cosine-holds : (c : tie.After-pair-to-half2)
-    → Holds (bits (c .pair-to-half2 .result .cosine)) (rule.pairToHalf (quarter - size (c .before .before)) .cosine) unit
+    → Holds (bits (c .pair-to-half2 .result .cosine))
+    (rule.pairToHalf (quarter - size (c .before .before)) .cosine) unit
 cosine-holds c =
     let b = c .before .before in
     got (ap (λ p. p .cosine) (half-is c))
