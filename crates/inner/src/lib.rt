@@ -3,4 +3,5 @@
 
 pub mod angles;
 pub mod numbers;
+pub mod pairs;
 pub mod turns;
