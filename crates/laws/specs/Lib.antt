@@ -14,6 +14,7 @@ pub mod Chain
 pub mod Series
 pub mod Circle
 pub mod Folding
+pub mod CircleSquares
 pub mod CircleLength
 pub mod CircleToHalf
 pub mod Angles
@@ -28,3 +29,24 @@ pub mod Polynomials
 pub mod Nutation
 pub mod Sun
 pub mod Sidereal
+-- tests: computed at each number below a bound; of ranges
+pub mod Every
+pub mod Ranges
+-- dates: spans laid end to end, the calendar
+pub mod Rows
+pub mod Calendar
+pub mod DayNumbers
+pub mod Found
+pub mod Seconds
+pub mod Dates
+pub mod Instants
+pub mod Parts
+pub mod Arc
+pub mod Certificates
+pub mod ArcSeries
+pub mod HalfQuarterLess
+pub mod ReadingRange
+pub mod Heights
+pub mod ReadingParts
+pub mod Octant
+pub mod Reading
