@@ -9,3 +9,4 @@ mod polynomials;
 pub mod precession;
 pub mod sidereal;
 pub mod sun;
+mod terms;
