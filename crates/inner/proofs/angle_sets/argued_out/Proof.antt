@@ -1,4 +1,4 @@
--- `inner::angles::argued_out` meets its contract.
+-- `inner::angle_sets::argued_out` meets its contract.
 use mathlib.Core.Path.{_≡_, _∙_}
 use borrow.Author.Needs.{needs}
 use mir.Syntax.{w64}
@@ -6,8 +6,8 @@ use mir.Val.{toZ, ofZ}
 use Rattle.rules.specs.Refusals.{given, refused, arguedAnswer}
 use Rattle.words.specs.Fits.{held64}
 use Rattle.inner.specs.Angles.{innerArgued}
-use Rattle.inner.proofs.angles.argued_out.Statement.{statement}
-use Rattle.inner.proofs.angles.argued_out.Tie as tie
+use Rattle.inner.proofs.angle_sets.argued_out.Statement.{statement}
+use Rattle.inner.proofs.angle_sets.argued_out.Tie as tie
 
 enum-known-a : tie.Need-enum-known-a
 enum-known-a c = search needs

@@ -1,11 +1,11 @@
--- `inner::angles::inner_precession` meets its contract.
+-- `inner::angle_sets::inner_precession` meets its contract.
 use mathlib.Core.Path.{ap, _∙_}
 use borrow.Author.Needs.{needs}
 use mir.Facts.{toZ-ofZ}
 use Rattle.rules.specs.Refusals.{precessedAnswer}
 use Rattle.inner.specs.Angles.{innerPrecessed}
-use Rattle.inner.proofs.angles.inner_precession.Statement.{statement}
-use Rattle.inner.proofs.angles.inner_precession.Tie as tie
+use Rattle.inner.proofs.angle_sets.inner_precession.Statement.{statement}
+use Rattle.inner.proofs.angle_sets.inner_precession.Tie as tie
 
 precession-requires : tie.Need-precession-requires
 precession-requires c κs = search needs

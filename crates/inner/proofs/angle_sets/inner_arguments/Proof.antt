@@ -1,11 +1,11 @@
--- `inner::angles::inner_arguments` meets its contract.
+-- `inner::angle_sets::inner_arguments` meets its contract.
 use mathlib.Core.Path.{ap, _∙_}
 use borrow.Author.Needs.{needs}
 use mir.Facts.{toZ-ofZ}
 use Rattle.rules.specs.Refusals.{arguedAnswer}
 use Rattle.inner.specs.Angles.{innerArgued}
-use Rattle.inner.proofs.angles.inner_arguments.Statement.{statement}
-use Rattle.inner.proofs.angles.inner_arguments.Tie as tie
+use Rattle.inner.proofs.angle_sets.inner_arguments.Statement.{statement}
+use Rattle.inner.proofs.angle_sets.inner_arguments.Tie as tie
 
 arguments-requires : tie.Need-arguments-requires
 arguments-requires c κs = search needs

@@ -1,11 +1,11 @@
--- `inner::angles::inner_nutation` meets its contract.
+-- `inner::angle_sets::inner_nutation` meets its contract.
 use mathlib.Core.Path.{ap, _∙_}
 use borrow.Author.Needs.{needs}
 use mir.Facts.{toZ-ofZ}
 use Rattle.rules.specs.Refusals.{nutatedAnswer}
 use Rattle.inner.specs.Angles.{innerNutated}
-use Rattle.inner.proofs.angles.inner_nutation.Statement.{statement}
-use Rattle.inner.proofs.angles.inner_nutation.Tie as tie
+use Rattle.inner.proofs.angle_sets.inner_nutation.Statement.{statement}
+use Rattle.inner.proofs.angle_sets.inner_nutation.Tie as tie
 
 nutation-requires : tie.Need-nutation-requires
 nutation-requires c κs = search needs

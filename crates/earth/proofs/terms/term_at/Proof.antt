@@ -1,4 +1,4 @@
--- `earth::nutation::term_at` meets its contract.
+-- `earth::terms::term_at` meets its contract.
 use mathlib.Core.Path.{refl}
 use mathlib.Core.List.{List}
 use Prim.Native.Nat.{ℕ}
@@ -8,8 +8,8 @@ use mir.Syntax.{w64}
 use mir.Val.{toZ, ofZ}
 use Rattle.earth.proofs.Table.{column}
 use borrow.Author.Needs.{needs}
-use Rattle.earth.proofs.nutation.term_at.Statement.{statement}
-use Rattle.earth.proofs.nutation.term_at.Tie as tie
+use Rattle.earth.proofs.terms.term_at.Statement.{statement}
+use Rattle.earth.proofs.terms.term_at.Tie as tie
 
 -- what the word at the place j of a row holds
 abbrev cell : ℕ → List ℤ → ℤ
