@@ -9,7 +9,7 @@ use lib.IntN.{ℤ, pos}
 use Rattle.rules.specs.declared.Star.{Star}
 use Rattle.rules.specs.StarList.{fileLength, recordOf, fileOf, starFrom}
 use Rattle.laws.specs.Bytes.{lowBytes, low-bytes, low-length}
-use Rattle.laws.specs.StarList.{StarFits, AllFit, records, headOf, file-is, file-length}
+use Rattle.laws.specs.StarList.{StarFits, AllFit, records, headOf, file-is, file-length, records-length}
 use Rattle.stars.specs.Numbers.{starOf}
 use Rattle.star_file.specs.Puts.{put, put-before, put-first}
 
@@ -82,11 +82,11 @@ row-star at numbers =
     λ i. starOf (ra i) (declination i) (ra-motion i) (declination-motion i)
 
 -- records put after the head's place, and then the head: the file, and what stood past it
-pub file-put : (ss : List Star) (room : List ℕ) (count : ℕ) → length ss ≡ count → AllFit ss → fileLength count ≤ length room
-    → put (put room 7 (lowRecords ss)) 0 (headOf count) ≡ fileOf ss ++ drop (fileLength count) room
+pub file-put : (ss : List Star) (room : List ℕ) (count : ℕ) → length ss ≡ count → fileLength count ≤ length room
+    → put (put room 7 (records ss)) 0 (headOf count) ≡ fileOf ss ++ drop (fileLength count) room
 unfolding fileLength
-file-put ss room count e fits l =
-    let long = low-records-length ss in
-    put-before room 7 (headOf count) (lowRecords ss) refl (omega (arith, long, e, l))
-    ∙ ap (put room 0) ((λ i. headOf (sym e i) ++ low-records ss fits i) ∙ sym (file-is ss))
+file-put ss room count e l =
+    let long = records-length ss in
+    put-before room 7 (headOf count) (records ss) refl (omega (arith, long, e, l))
+    ∙ ap (put room 0) (ap (λ n. headOf n ++ records ss) (sym e) ∙ sym (file-is ss))
     ∙ put-first room (fileOf ss) (fileLength count) (file-length ss ∙ ap fileLength e)

@@ -28,7 +28,8 @@ fn joined(b: u8, z: i64) -> i64
 // The signed number in `width` bytes from `at` on: from its last byte, which has the sign, down.
 pub fn number_at(file: &[u8], at: usize, width: usize) -> i64
     requires { ⌜ (0 < width) × ((width ≤ 8) × (at + width ≤ length (now file))) ⌝ }
-    ensures { λ r. ⌜ (r ≡ signedAt at width (now (file .entry))) × (mag r < 128 * 256 ^ (width - 1)) ⌝ }
+    ensures { λ r. ⌜ (r ≡ signedAt at width (now (file .entry)))
+        × (mag r < 128 * 256 ^ (width - 1)) ⌝ }
 {
     let mut k = width - 1;
     let mut v = joined(file[at + k], sign_of(file[at + k]));

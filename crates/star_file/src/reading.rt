@@ -13,7 +13,8 @@ use stars::star_refused;
 ghost use mathlib.Core.Path.{_≡_};
 ghost use lib.ListN.{length, drop};
 ghost use Prim.Native.Nat.{_+_, _*_, _≤_};
-ghost use Rattle.rules.specs.StarList.{starIn, starsIn, anyRefused, markRefused, listCount, listStar, freshEntry};
+ghost use Rattle.rules.specs.StarList.{starIn, starsIn, anyRefused, markRefused, listCount};
+ghost use Rattle.rules.specs.StarList.{listStar, freshEntry};
 ghost use Rattle.star_file.specs.Plans.{readPlan};
 
 // The length of a file's head and of a record, and the most records.

@@ -14,7 +14,8 @@ ghost use lib.IntN.{ℤ};
 ghost use lib.ListN.{length};
 ghost use Prim.Native.Nat.{_+_, _*_, _<_, _≤_, _^_};
 ghost use Rattle.rules.specs.Place.{starRefused};
-ghost use Rattle.rules.specs.StarList.{recordOf, starsFrom, anyRefused, leaving, numbersWritten, roomAfterNumbers};
+ghost use Rattle.rules.specs.StarList.{recordOf, anyRefused, leaving, starsFrom};
+ghost use Rattle.rules.specs.StarList.{numbersWritten, roomAfterNumbers};
 ghost use Rattle.laws.specs.Bytes.{lowBytes};
 ghost use Rattle.laws.specs.StarList.{headOf};
 ghost use Rattle.stars.specs.Numbers.{starOf};
@@ -32,7 +33,8 @@ const MOST: usize = 64;
 // Two numbers, one after the other.
 fn put_pair(room: &mut [u8], at: usize, width: usize, a: i64, b: i64)
     requires { ⌜ at + (width + width) ≤ length (now room) ⌝ }
-    ensures { λ _. ⌜ now (room .exit) ≡ put (now (room .entry)) at (lowBytes width a ++ lowBytes width b) ⌝ }
+    ensures { λ _. ⌜ now (room .exit)
+        ≡ put (now (room .entry)) at (lowBytes width a ++ lowBytes width b) ⌝ }
 {
     put_number(room, at, width, a);
     put_number(room, at + width, width, b);
@@ -41,7 +43,8 @@ fn put_pair(room: &mut [u8], at: usize, width: usize, a: i64, b: i64)
 // The four numbers of a star as a record.
 fn put_star(room: &mut [u8], at: usize, ra: i64, declination: i64, motion: i64, other: i64)
     requires { ⌜ at + 24 ≤ length (now room) ⌝ }
-    ensures { λ _. ⌜ now (room .exit) ≡ put (now (room .entry)) at (lowRecord (starOf ra declination motion other)) ⌝ }
+    ensures { λ _. ⌜ now (room .exit)
+        ≡ put (now (room .entry)) at (lowRecord (starOf ra declination motion other)) ⌝ }
 {
     put_pair(room, at, 8, ra, declination);
     put_pair(room, at + 16, 4, motion, other);
@@ -50,7 +53,8 @@ fn put_star(room: &mut [u8], at: usize, ra: i64, declination: i64, motion: i64, 
 // An entry's star as record i; the next is i + 1.
 pub fn put_entry(room: &mut [u8], i: usize, entry: Entry) -> usize
     requires { ⌜ 7 + 24 * i + 24 ≤ length (now room) ⌝ }
-    ensures { λ r. ⌜ (r ≡ i + 1) × (now (room .exit) ≡ put (now (room .entry)) (7 + 24 * i) (recordOf (entry .star))) ⌝ }
+    ensures { λ r. ⌜ (r ≡ i + 1)
+        × (now (room .exit) ≡ put (now (room .entry)) (7 + 24 * i) (recordOf (entry .star))) ⌝ }
 {
     let star = entry.star;
     put_star(
@@ -117,7 +121,8 @@ pub fn write_plan(accepted: usize, count: usize, room: usize) -> Plan
 // The head of the file, after its records, where the list was not refused; and the answer.
 pub fn finish(room: &mut [u8], plan: Plan) -> Listed
     requires { ⌜ Ready plan (length (now room)) ⌝ }
-    ensures { λ r. ⌜ (r ≡ plan .answer) × (now (room .exit) ≡ leaving (plan .answer) (put (now (room .entry)) 0 (headOf (plan .todo))) (now (room .entry))) ⌝ }
+    ensures { λ r. ⌜ (r ≡ plan .answer) × (now (room .exit) ≡ leaving (plan .answer)
+        (put (now (room .entry)) 0 (headOf (plan .todo))) (now (room .entry))) ⌝ }
 {
     let answer = plan.answer;
     match answer {
@@ -148,7 +153,8 @@ fn any_refused(numbers: &[i64], count: usize) -> bool
 // The first `count` stars of a row of numbers as records, after the head.
 fn put_stars(room: &mut [u8], numbers: &[i64], count: usize)
     requires { ⌜ (4 * count ≤ length (now numbers)) × (7 + 24 * count ≤ length (now room)) ⌝ }
-    ensures { λ _. ⌜ now (room .exit) ≡ put (now (room .entry)) 7 (lowRecords (starsFrom count (now (numbers .entry)))) ⌝ }
+    ensures { λ _. ⌜ now (room .exit)
+        ≡ put (now (room .entry)) 7 (lowRecords (starsFrom count (now (numbers .entry)))) ⌝ }
 {
     let mut i: usize = 0;
     while i < count {
@@ -167,12 +173,14 @@ fn put_stars(room: &mut [u8], numbers: &[i64], count: usize)
 
 // A list file of a row of numbers, four to a star, written at once.
 //
-// Given: numbers, right ascension and declination in µas, their motions in µas a year, star after star.
-// Returned: the file's length, and the file at the start of room; or refusal 5; or 11, also where the
-// last star has not all its numbers.
+// Given: numbers, right ascension and declination in µas, their motions in µas a year, of each star;
+// room, any.
+// Returned: the file's length, and the file at the start of room; the bytes past it stay. Or refusal
+// 5 or 11, and all bytes stay; 11 also where the last star has not all its numbers.
 // Rule: 01, "Lists" and "Refusal numbers".
 pub fn list_write(numbers: &[i64], room: &mut [u8]) -> Listed
-    ensures { λ r. ⌜ (r ≡ numbersWritten (now (numbers .entry)) (now (room .entry))) × (now (room .exit) ≡ roomAfterNumbers (now (numbers .entry)) (now (room .entry))) ⌝ }
+    ensures { λ r. ⌜ (r ≡ numbersWritten (now (numbers .entry)) (now (room .entry)))
+        × (now (room .exit) ≡ roomAfterNumbers (now (numbers .entry)) (now (room .entry))) ⌝ }
 {
     let count = numbers.len() / 4;
     if any_refused(numbers, count) {

@@ -14,7 +14,7 @@ use Rattle.rules.specs.StarList.{rowRefused, numbersWritten, roomAfterNumbers}
 use Rattle.laws.specs.StarList.{headOf, all-fit, numbers-kept, numbers-refused-5, numbers-refused-11, numbers-counted}
 use Rattle.laws.specs.StarList.{row-uneven, row-even, room-many, room-small, room-enough, number-count}
 use Rattle.star_file.specs.Puts.{put}
-use Rattle.star_file.specs.Records.{lowRecords, file-put}
+use Rattle.star_file.specs.Records.{low-records, file-put}
 use Rattle.star_file.proofs.writing.list_write.Statement.{statement}
 use Rattle.star_file.proofs.writing.list_write.Tie as tie
 
@@ -112,9 +112,11 @@ returns-5 c =
     let answer = numbers-counted row room (accepted (c .before .before .before .before .before .before .before .before .before .before .before)) (fits else) in (
       sym answer,
       writes row room (c .before .before .put-head .last .0) answer
-          (c .before .before .put-head .ensures ∙ ap (λ r. put r 0 (headOf (countFrom row))) (c .before .before .before .before .before .before .put-stars .ensures)
-          ∙ file-put (numberStars row) room (countFrom row) (number-count row)
-          (all-fit (numberStars row) (accepted (c .before .before .before .before .before .before .before .before .before .before .before))) (else .if4 .left)),
+          (c .before .before .put-head .ensures
+          ∙ ap (λ r. put r 0 (headOf (countFrom row)))
+          (c .before .before .before .before .before .before .put-stars .ensures
+          ∙ ap (put room 7) (low-records (numberStars row) (all-fit (numberStars row) (accepted (c .before .before .before .before .before .before .before .before .before .before .before)))))
+          ∙ file-put (numberStars row) room (countFrom row) (number-count row) (else .if4 .left)),
     )
 
 pub list-write-spec : {M : Type 1} → statement M
