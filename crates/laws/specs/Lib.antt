@@ -40,3 +40,5 @@ pub mod Seconds
 pub mod Dates
 pub mod Instants
 pub mod Parts
+-- lines of `times`
+pub mod Lines
