@@ -42,3 +42,4 @@ pub mod Instants
 pub mod Parts
 -- lines of `times`
 pub mod Lines
+pub mod Decimal

@@ -10,6 +10,7 @@ use rules::Line;
 use rules::Moment;
 use rules::Time;
 
+mod decimals;
 mod fields;
 
 // A line without its end.
