@@ -2,7 +2,7 @@
 use mathlib.Core.Path.{_≡_, refl, sym, ap, _∙_}
 use mathlib.Core.Bool.{Bool, true, false, cond}
 use mathlib.Core.List.{List, [], _∷_, _++_, append-assoc}
-use Prim.Native.Nat.{ℕ, zero, suc, _+_, _-_, _*_, _/_, _%_, _≤_, _<_}
+use Prim.Native.Nat.{ℕ, zero, suc, _+_, _-_, _*_, _/_, _%_, _^_, _≤_, _<_}
 use native.Mathlib.Omega.{arith}
 use lib.Dec.{ltb}
 use lib.ListN.{set, take, drop, length, length-append, length-set, take-append-drop}
@@ -182,3 +182,8 @@ length-decimal z h = go (ltZ z (pos 0)) refl
     go false e =
         rw (decimal-pos z h e)
         (omega (arith, length-last-digits (width 18 (natAbs z)) (natAbs z), width-le 18 (natAbs z)))
+
+-- a number of 64 bits has digits enough
+pub word-limit : (z : ℤ) → natAbs z ≤ 2 ^ 63 → natAbs z < limit 18
+unfolding limit
+word-limit z h = omega arith

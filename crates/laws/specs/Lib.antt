@@ -43,3 +43,5 @@ pub mod Parts
 -- lines of `times`
 pub mod Lines
 pub mod Decimal
+pub mod Times
+pub mod Sample

@@ -118,3 +118,37 @@ to-end bs k = take-all (length bs - k) (drop k bs) (omega (arith, length-drop k 
 pub unsigned-is : (bs : List ℕ) (b : Bool) → negative bs ≡ b → unsigned bs ≡ cond b (drop 1 bs) bs
 unfolding unsigned
 unsigned-is bs b e = rw e
+
+-- ---- a long line is of another form
+
+digits-long : (bs : List ℕ) → 5 ≤ length bs → ofDigits bs ≡ false
+unfolding ofDigits
+digits-long bs h = rw (le-leb 1 (length bs) (omega arith), lt-leb (length bs) 4 (omega arith))
+
+difference-long : (bs : List ℕ) → 6 ≤ length bs → ofDifference bs ≡ false
+unfolding ofDifference unsigned
+difference-long bs h = go (negative bs)
+  where
+    go : (b : Bool) → ofDigits (cond b (drop 1 bs) bs) ≡ false
+    go true = digits-long (drop 1 bs) (omega (arith, length-drop 1 bs))
+    go false = digits-long bs (omega arith)
+
+both-false : (a b : Bool) → b ≡ false → a && b ≡ false
+both-false true b e = e
+both-false false b e = refl
+
+pub long-other : (line : List ℕ) → 30 ≤ length line → lineOf line ≡ Line.Other
+unfolding lineOf
+long-other line h =
+    rw (both-false (ofForm form (take 24 line)) (ofDifference (drop 24 line))
+    (difference-long (drop 24 line) (omega (arith, length-drop 24 line))))
+
+-- so a line is told by its first 30 bytes, or more
+pub line-cut : (line : List ℕ) (k : ℕ) → 30 ≤ k → lineOf (take k line) ≡ lineOf line
+line-cut line k h = go (ltb k (length line)) refl
+  where
+    go : (b : Bool) → ltb k (length line) ≡ b → lineOf (take k line) ≡ lineOf line
+    go true e =
+        let l = ltb-true k (length line) e in
+        long-other (take k line) (omega (arith, length-take k line)) ∙ sym (long-other line (omega arith))
+    go false e = ap lineOf (take-all k line (ltb-false k (length line) e))

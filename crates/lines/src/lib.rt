@@ -1,10 +1,13 @@
 // The lines of `times`, document 01, "Dates": a line read, and its answer printed.
 ghost use mathlib.Core.Path.{_≡_};
+ghost use lib.ListN.{length};
 ghost use Rattle.rules.specs.Lines as rule;
+ghost use Rattle.rules.specs.Times.{printed, overlaid};
 use crate::fields::difference;
 use crate::fields::field;
 use crate::fields::of_difference;
 use crate::fields::of_form;
+use crate::printing::put_line;
 use rules::Date;
 use rules::Line;
 use rules::Moment;
@@ -12,6 +15,7 @@ use rules::Time;
 
 mod decimals;
 mod fields;
+mod printing;
 
 // A line without its end.
 //
@@ -44,4 +48,16 @@ pub fn line_of(line: &[u8]) -> Line
         },
         difference: difference(&line[24..]),
     })
+}
+
+// What `times` prints for a line, without its end.
+//
+// Given: any bytes, and room for the answer.
+// Returned: the length of the answer, which stands at the front of the room; the rest of the room stays.
+// Rule: 01, "Dates".
+pub fn print_line(line: &[u8], out: &mut [u8; 64]) -> usize
+    ensures answer { λ r. ⌜ r ≡ length (printed (rule.lineOf (now (line .entry)))) ⌝ }
+    ensures kept { λ _. ⌜ now (out .exit) ≡ overlaid (printed (rule.lineOf (now (line .entry)))) (now (out .entry)) ⌝ }
+{
+    put_line(line_of(line), out)
 }

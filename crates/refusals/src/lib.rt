@@ -1,12 +1,11 @@
 // The numbers of the refusals: document 01, "Refusal numbers".
 ghost use mathlib.Core.Path.{_≡_};
-ghost use lib.IntN.{pos};
 ghost use Rattle.rules.specs.Refusals.{number};
 use rules::Refusal;
 
 // The number of a refusal, 1 to 13.
-pub fn number_of(refusal: Refusal) -> i64
-    ensures { λ r. ⌜ r ≡ pos (number refusal) ⌝ }
+pub fn number_of(refusal: Refusal) -> u8
+    ensures { λ r. ⌜ r ≡ number refusal ⌝ }
 {
     match refusal {
         Refusal::Year => 1,
