@@ -187,3 +187,6 @@ length-decimal z h = go (ltZ z (pos 0)) refl
 pub word-limit : (z : ℤ) → natAbs z ≤ 2 ^ 63 → natAbs z < limit 18
 unfolding limit
 word-limit z h = omega arith
+
+pub length-overlaid : (bytes room : List ℕ) → length bytes ≤ length room → length (overlaid bytes room) ≡ length room
+length-overlaid bytes room h = ap length (sym (overlaid-is bytes room h)) ∙ length-sets room 0 bytes
