@@ -1,2 +1,3 @@
--- What the requires clauses of `earth` cite.
+-- What the clauses of `earth` cite.
+pub mod Terms
 pub mod Fits

@@ -1,5 +1,5 @@
-// Polynomials in time by document 01's rule, for any coefficients: from the highest down, multiply by t, Rnd by Q,
-// add the next. Coefficients in µas, constant first.
+// Polynomials in time by document 01's rule, for any coefficients: from the highest down, multiply
+// by t, Rnd by Q, add the next. Coefficients in µas, constant first.
 
 use whole::rnd_product_quotient;
 use whole::rnd_quotient;
@@ -20,7 +20,8 @@ fn step(t: i64, p: i64, next: i64) -> i64
     rnd_product_quotient(t, p, CENTURY) + next
 }
 
-// A polynomial of two coefficients. The first product of every polynomial fits the word, and is not carried in parts.
+// A polynomial of two coefficients. Every polynomial begins here: the product of its highest
+// coefficient fits the word, and is not carried in parts.
 pub fn linear(t: i64, c0: i64, c1: i64) -> i64
     requires { ⌜ PolynomialFits t (c0 ∷ c1 ∷ []) ⌝ }
     ensures { λ r. ⌜ r ≡ polynomial (c0 ∷ c1 ∷ []) t ⌝ }

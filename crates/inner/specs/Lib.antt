@@ -1,2 +1,4 @@
 -- What the exports for the tests answer.
 pub mod Numbers
+pub mod Turns
+pub mod Angles

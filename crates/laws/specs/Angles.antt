@@ -1,5 +1,5 @@
--- What the pair of cosine and sine keeps, of every angle: near the series, its sizes and length, and the laws of angles.
-use mathlib.Core.Path.{_≡_, refl, sym, ap, _∙_, subst}
+-- What the pair of cosine and sine keeps, of every angle: near the series, its sizes and length, the laws of angles.
+use mathlib.Core.Path.{_≡_, refl, sym, _∙_}
 use mathlib.Core.List.{[], _∷_}
 use Prim.Native.Nat.{ℕ, zero, suc, _+_, _*_, _/_, _%_, _≤_, _<_}
 use native.Mathlib.Omega.{arith}
@@ -16,11 +16,11 @@ use Rattle.rules.specs.Turning.{Accepted}
 use Rattle.rules.specs.Circle.{radianParts, squareParts, stage, stages, rawSine, rawCosine, pairOfParts, pairToHalf}
 use Rattle.rules.specs.Circle.{exchangedPair, pairToQuarter, inQuarter, folded, pair}
 use Rattle.rules.specs.Series.{whole, radian, seriesToHalf, series}
-use Rattle.laws.specs.Near.{UpTo, upTo-le}
+use Rattle.laws.specs.Near.{upTo-le}
 use Rattle.laws.specs.CircleLength.{cosine-range, sine-range, pairOfParts-accepted}
 use Rattle.laws.specs.CircleToHalf.{WithinFour, pairToHalf-near, pairToHalf-is, radianParts-range}
 use Rattle.laws.specs.Folding.{to-quarter, folded-related, Place, place, folded-at, folded-place, lower-half}
-use Rattle.laws.specs.Folding.{opposite, folded-circle, folded-quarter, folded-opposite}
+use Rattle.laws.specs.Folding.{folded-circle, folded-quarter, folded-opposite}
 
 -- ---- near the series
 
@@ -71,7 +71,8 @@ sized-quarter zero p h = h
 sized-quarter (suc zero) p h = record {
   cosine-le = rw (abs-neg (p .sine)) (h .sine-le);
   sine-le = h .cosine-le;
-  length = rw (abs-neg (p .sine)) (record { low = omega (arith, h .length .low); high = omega (arith, h .length .high) });
+  length = rw (abs-neg (p .sine))
+      (record { low = omega (arith, h .length .low); high = omega (arith, h .length .high) });
 }
 sized-quarter (suc (suc zero)) p h = record {
   cosine-le = rw (abs-neg (p .cosine)) (h .cosine-le);
@@ -81,7 +82,8 @@ sized-quarter (suc (suc zero)) p h = record {
 sized-quarter (suc (suc (suc k))) p h = record {
   cosine-le = h .sine-le;
   sine-le = rw (abs-neg (p .cosine)) (h .cosine-le);
-  length = rw (abs-neg (p .cosine)) (record { low = omega (arith, h .length .low); high = omega (arith, h .length .high) });
+  length = rw (abs-neg (p .cosine))
+      (record { low = omega (arith, h .length .low); high = omega (arith, h .length .high) });
 }
 
 pub pairToHalf-sized : (r : ℕ) → r ≤ halfQuarter → Sized (pairToHalf r)

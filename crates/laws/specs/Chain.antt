@@ -1,6 +1,6 @@
 -- A series worked in rounded steps is near the fraction that its steps mean (blueprint, A3): one law, `chain`, for the
 -- rows of the sine, the cosine and the arc. The error is a function that computes; no stage has a constant of its own.
-use mathlib.Core.Path.{_≡_, refl, ap, _∙_}
+use mathlib.Core.Path.{_≡_, refl}
 use mathlib.Core.List.{List, [], _∷_}
 use mathlib.Core.Bool.{Bool, _&&_}
 use mir.Facts.{and-yes}

@@ -1,8 +1,8 @@
 -- The raw sine and cosine of x, from nought to half a quarter: their ranges, and how near they are to the series at ANY
 -- fraction y / d of a radian that x is near (blueprint, SC). The errors compute, from that of x.
-use mathlib.Core.Path.{_≡_, refl, sym, subst}
-use mathlib.Core.List.{List, [], _∷_}
-use Prim.Native.Nat.{ℕ, _+_, _*_, _-_, _/_, _≤_, _<_}
+use mathlib.Core.Path.{_≡_, refl}
+use mathlib.Core.List.{[], _∷_}
+use Prim.Native.Nat.{ℕ, _+_, _*_, _/_, _≤_, _<_}
 use native.Mathlib.Nat.{mul-le-mul, mul-le-mul-left, mul-pos}
 use native.Mathlib.Omega.{arith}
 use lib.Dec.{T, lit<, lit≤}
@@ -11,11 +11,11 @@ use Rattle.integers.specs.Size.{abs-mul, abs-sub}
 use Rattle.integers.specs.Ring.{ring, v0, v1, v2, _⊖_, _⊗_, lit}
 use Rattle.integers.specs.Polynomial.{numerator, denominator}
 use Rattle.rules.specs.Units.{unit}
-use Rattle.rules.specs.Rounding.{rnd, rndSize}
+use Rattle.rules.specs.Rounding.{rndSize}
 use Rattle.rules.specs.Circle.{squareParts, stages, sineRow, cosineRow, rawSine, rawCosine}
 use Rattle.rules.specs.Series.{whole, sineSeries, cosineSeries}
 use Rattle.laws.specs.Near.{Near, UpTo, upTo-pos, upTo-le, upTo-product, near-product-one, near-scale}
-use Rattle.laws.specs.Chain.{worked, error, firstError, rises, circleSteps, stages-worked, worked-range, chain, Worked}
+use Rattle.laws.specs.Chain.{error, firstError, rises, circleSteps, stages-worked, worked-range, chain, Worked}
 use Rattle.laws.specs.Series.{sineSteps, cosineSteps, sine-by-steps, cosine-by-steps, sine-whole, cosine-whole}
 
 -- x of half a quarter
@@ -50,8 +50,12 @@ module _ (z : ℤ) (o : ℕ) (ho : 0 < o) (h : 1000 * natAbs z ≤ 618 * o) wher
   sine-left-out : Near (pos unit) (pos (156 * (o * (1 * (210 * (o * 1))))) -ℤ pos 1 *ℤ (z *ℤ sineRest))
       (1 * (156 * (o * (1 * (210 * (o * 1)))))) sineLeftOut
   sine-left-out =
-      let k : natAbs sineRest ≤ 211 * o =
-      omega (arith, abs-sub (pos (210 * (o * 1))) (pos 1 *ℤ (z *ℤ pos 1)), abs-mul (pos 1) (z *ℤ pos 1), abs-mul z (pos 1)) in
+      let k : natAbs sineRest ≤ 211 * o = omega (
+        arith,
+        abs-sub (pos (210 * (o * 1))) (pos 1 *ℤ (z *ℤ pos 1)),
+        abs-mul (pos 1) (z *ℤ pos 1),
+        abs-mul z (pos 1),
+      ) in
       left-out z sineRest o (1 * (210 * (o * 1))) 156 sineLeftOut (omega (arith, mul-pos ho ho))
       (omega (arith, mul-le-mul h k))
 

@@ -1,9 +1,9 @@
--- The pair from nought to half a quarter: near the series, by what x is (blueprint, X, HQ, T2); the half-quarter exception
--- gives what the two rows give.
+-- The pair from nought to half a quarter: near the series, by what x is (blueprint, X, HQ, T2); the half-quarter
+-- exception gives what the two rows give.
 use mathlib.Core.Path.{_≡_, refl, sym, ap, _∙_}
 use mathlib.Core.List.{[], _∷_}
 use mathlib.Core.Bool.{Bool, true, false, cond}
-use Prim.Native.Nat.{ℕ, _+_, _*_, _≤_, _<_, _^_}
+use Prim.Native.Nat.{ℕ, _+_, _*_, _≤_, _^_}
 use native.Mathlib.Nat.{mul-le-mul-right}
 use native.Mathlib.Omega.{arith}
 use lib.Dec.{T, eqb, eqb→eq, lit<, lit≤}
@@ -19,7 +19,8 @@ use Rattle.rules.specs.Circle.{pairToHalf}
 use Rattle.rules.specs.Series.{whole, sineSeries, cosineSeries, pi, radian, seriesToHalf}
 use Rattle.laws.specs.Rounding.{rnd-near}
 use Rattle.laws.specs.Near.{Near, UpTo, upTo-pos, upTo-product, near-moved}
-use Rattle.laws.specs.Circle.{halfQuarterParts, sineError, cosineError, rawSine-near, rawCosine-near, errors-angle}
+use Rattle.laws.specs.Circle.{halfQuarterParts, sineError, cosineError, rawSine-near, rawCosine-near}
+use Rattle.laws.specs.Circle.{errors-angle}
 use Rattle.laws.specs.CircleLength.{cosine-moved, sine-moved}
 
 -- ---- the exception is what the rows give

@@ -1,5 +1,5 @@
--- Folding, of any pairs f from nought to half a quarter: what holds there holds of every angle; a circle more, a quarter
--- more, the opposite angle. `Place` says where an angle lies, by one linear equation.
+-- Folding, of any pairs f from nought to half a quarter: what holds there holds of every angle; a circle more, a
+-- quarter more, the opposite angle. `Place` says where an angle lies, by one linear equation.
 use mathlib.Core.Path.{_≡_, refl, sym, ap, _∙_}
 use mathlib.Core.Bool.{Bool, true, false, not, cond}
 use Prim.Native.Nat.{ℕ, zero, suc, _+_, _*_, _-_, _/_, _%_, _≤_, _<_}

@@ -14,6 +14,7 @@ pub mod Chain
 pub mod Series
 pub mod Circle
 pub mod Folding
+pub mod CircleSquares
 pub mod CircleLength
 pub mod CircleToHalf
 pub mod Angles
@@ -45,3 +46,12 @@ pub mod Lines
 pub mod Decimal
 pub mod Times
 pub mod Sample
+pub mod Arc
+pub mod Certificates
+pub mod ArcSeries
+pub mod HalfQuarterLess
+pub mod ReadingRange
+pub mod Heights
+pub mod ReadingParts
+pub mod Octant
+pub mod Reading

@@ -12,7 +12,8 @@ use Rattle.integers.specs.Size.{abs-neg, abs-mul, abs-sub}
 use Rattle.integers.specs.Ring.{ring, v0, v1, v2, v3, v4, _⊖_, _⊗_, neg}
 use Rattle.rules.specs.declared.Pair.{Pair}
 use Rattle.rules.specs.Units.{unit, quarter, halfQuarter}
-use Rattle.rules.specs.Circle.{radianParts, pairOfParts, pairToHalf, exchangedPair, pairToQuarter, inQuarter, folded, pair}
+use Rattle.rules.specs.Circle.{radianParts, pairOfParts, pairToHalf, exchangedPair, pairToQuarter, inQuarter, folded}
+use Rattle.rules.specs.Circle.{pair}
 use Rattle.rules.specs.Series.{whole, sineSeries, cosineSeries, pi, radian}
 use Rattle.laws.specs.Near.{Near}
 use Rattle.laws.specs.Circle.{errors-angle}
@@ -166,7 +167,8 @@ pair-next a =
               (omega (arith, w .is, add-is a (pos 1))),
           quarter-first q (pairToQuarter pairToHalf 0) (omega arith),
         )
-        (beside-quarter q (inQuarter 1 (pairToQuarter pairToHalf 0)) (pairToQuarter pairToHalf (quarter - 1)) next-quarter)
+        (beside-quarter q (inQuarter 1 (pairToQuarter pairToHalf 0)) (pairToQuarter pairToHalf (quarter - 1))
+        next-quarter)
     by w q r d e (no h) (no g) =
         let t : r ≡ quarter - 1 = omega (arith, w .r-lt) in
         let u : q ≡ 3 = omega (arith, w .q-lt) in
@@ -177,4 +179,5 @@ pair-next a =
               (omega (arith, w .is, add-is a (pos 1))),
           quarter-round (pairToQuarter pairToHalf 0),
         )
-        (beside-quarter 3 (inQuarter 1 (pairToQuarter pairToHalf 0)) (pairToQuarter pairToHalf (quarter - 1)) next-quarter)
+        (beside-quarter 3 (inQuarter 1 (pairToQuarter pairToHalf 0)) (pairToQuarter pairToHalf (quarter - 1))
+        next-quarter)

@@ -1,11 +1,12 @@
 -- Nutation: the limits of its two sums and their rounding, for any table of terms and for the ten of 01.
+use mathlib.Core.Path.{_≡_, ap, sym, _∙_}
 use mathlib.Core.List.{List, [], _∷_, map}
-use Prim.Native.Nat.{ℕ, zero, suc, _+_, _*_, _≤_, _^_}
+use Prim.Native.Nat.{ℕ, zero, suc, _+_, _*_, _≤_, _<_, _^_}
 use native.Mathlib.Nat.{mul-le-mul}
 use native.Mathlib.Omega.{arith}
 use lib.Dec.{lit<, lit≤}
-use lib.ListN.{take}
-use lib.IntN.{ℤ, pos, natAbs, _+ℤ_, _-ℤ_, _*ℤ_}
+use lib.ListN.{length, take, getD}
+use lib.IntN.{ℤ, pos, natAbs, _+ℤ_, _-ℤ_, _*ℤ_, +ℤ-comm, +ℤ-assoc}
 use Rattle.integers.specs.Size.{abs-add, abs-mul}
 use Rattle.rules.specs.declared.Tt.{Tt}
 use Rattle.rules.specs.declared.Term.{Term}
@@ -27,19 +28,30 @@ sizesOf amplitude (m ∷ ms) = sizes (amplitude m) + sizesOf amplitude ms
 
 -- ---- one product
 
-longitude-product-le : (t : Tt) → InRange (t .0) → (m : Term)
+pub longitude-product-le : (t : Tt) → InRange (t .0) → (m : Term)
     → natAbs (longitudeProduct t m) ≤ sizes (longitudeAmplitude m) * unit
 unfolding longitudeProduct
 longitude-product-le t h m =
     rw (abs-mul (polynomial (longitudeAmplitude m) (t .0)) (pair (termAngle (arguments t) m) .sine))
     (mul-le-mul (polynomial-le (longitudeAmplitude m) (t .0) h) (pair-sized (termAngle (arguments t) m) .sine-le))
 
-obliquity-product-le : (t : Tt) → InRange (t .0) → (m : Term)
+pub obliquity-product-le : (t : Tt) → InRange (t .0) → (m : Term)
     → natAbs (obliquityProduct t m) ≤ sizes (obliquityAmplitude m) * unit
 unfolding obliquityProduct
 obliquity-product-le t h m =
     rw (abs-mul (polynomial (obliquityAmplitude m) (t .0)) (pair (termAngle (arguments t) m) .cosine))
     (mul-le-mul (polynomial-le (obliquityAmplitude m) (t .0) h) (pair-sized (termAngle (arguments t) m) .cosine-le))
+
+-- ---- the sum, one product after the other
+
+pub total-next : (product : Term → ℤ) (ms : List Term) (k : ℕ) (last : Term) → k < length ms
+    → total (map product (take (suc k) ms)) ≡ total (map product (take k ms)) +ℤ product (getD ms k last)
+unfolding total
+total-next product [] k last h = absurd (omega arith)
+total-next product (m ∷ ms) zero last h = +ℤ-comm (product m) (pos 0)
+total-next product (m ∷ ms) (suc k) last h =
+    ap (λ (z : ℤ). product m +ℤ z) (total-next product ms k last (omega arith))
+    ∙ sym (+ℤ-assoc (product m) (total (map product (take k ms))) (product (getD ms k last)))
 
 -- ---- the sum of any table whose sizes sum to at most 2^32
 

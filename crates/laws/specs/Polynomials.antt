@@ -1,8 +1,8 @@
 -- Polynomials in time: how far the rule is from the exact value, for any coefficients and for each that 01 names;
 -- how large a value can be.
-use mathlib.Core.Path.{_≡_, refl, sym, ap, _∙_}
+use mathlib.Core.Path.{_≡_}
 use mathlib.Core.List.{List, [], _∷_}
-use Prim.Native.Nat.{ℕ, zero, suc, _+_, _*_, _-_, _≤_, _<_, _^_}
+use Prim.Native.Nat.{ℕ, zero, suc, _+_, _*_, _-_, _≤_, _^_}
 use native.Mathlib.Nat.{mul-le-mul, mul-le-mul-left, pow-succ'}
 use native.Mathlib.Omega.{arith}
 use lib.Dec.{lit<, lit≤}

@@ -1,14 +1,14 @@
--- The series that the pair is compared with, in three forms that are one: term by term (the rule), worked in steps (what
--- nearness is shown of), and as lists of coefficients in the square (what the arc needs).
+-- The series that the pair is compared with, in three forms that are one: term by term (the rule), worked in steps
+-- (what nearness is shown of), and as lists of coefficients in the square (what the arc needs).
 use mathlib.Core.Path.{_≡_, refl, sym, ap, _∙_}
 use mathlib.Core.List.{List, [], _∷_}
-use Prim.Native.Nat.{ℕ, zero, suc, _+_, _*_, _-_, _/_, _≤_, _<_, _^_}
-use native.Mathlib.Nat.{pow-succ', pow-zero, one-le-pow}
+use Prim.Native.Nat.{ℕ, zero, suc, _*_, _-_, _/_, _≤_, _^_}
+use native.Mathlib.Nat.{pow-succ', pow-zero}
 use native.Mathlib.Omega.{arith}
 use lib.Dec.{lit≤}
 use lib.ListN.{length}
 use lib.IntN.{ℤ, pos, negℤ, natAbs, _*ℤ_}
-use Rattle.integers.specs.Ring.{ring, Term, v0, v1, _⊕_, _⊖_, _⊗_, neg, lit}
+use Rattle.integers.specs.Ring.{ring, Term, v0, v1, _⊕_, _⊖_, _⊗_, lit}
 use Rattle.integers.specs.Polynomial.{Step, step, plus, scale, times, valueAt, numerator, denominator, coefficients}
 use Rattle.integers.specs.Polynomial.{scaleOf, degree, numerator-is, denominator-is}
 use Rattle.integers.specs.Polynomial.{power as powerOf}
@@ -69,10 +69,6 @@ power-is o (suc e) = rw (power-is o e, pow-succ' o e)
 pub whole-power : (d : ℕ) → whole d ≡ 1307674368000 * powerOf d 15
 unfolding whole factorial
 whole-power d = rw (power-is d 15)
-
-pub whole-pos : (d : ℕ) → 0 < d → 0 < whole d
-unfolding whole factorial
-whole-pos d h = omega (arith, one-le-pow 15 d h)
 
 pub sine-whole : (d : ℕ) → whole d ≡ d * denominator (d * d) sineSteps 1
 unfolding denominator powerOf

@@ -1,14 +1,15 @@
 -- The Sun's longitude: the centre's sum fits a signed word as it stands, not doubled; how large the longitude can be.
 use Prim.Native.Nat.{_+_, _*_, _≤_, _<_, _^_}
-use mathlib.Core.List.{List}
+use mathlib.Core.Path.{_≡_, ap}
+use mathlib.Core.List.{List, [], _∷_}
 use native.Mathlib.Nat.{mul-le-mul}
 use native.Mathlib.Omega.{arith}
 use lib.Dec.{lit<}
 use lib.IntN.{ℤ, pos, natAbs, _+ℤ_, _-ℤ_, _*ℤ_}
+use Rattle.integers.specs.Ring.{ring, v0, lit, _⊗_}
 use Rattle.integers.specs.Size.{abs-add, abs-mul}
 use Rattle.rules.specs.declared.Tt.{Tt}
 use Rattle.rules.specs.Units.{unit}
-use Rattle.rules.specs.Rounding.{rnd}
 use Rattle.rules.specs.Polynomials.{polynomial, arguments}
 use Rattle.rules.specs.Circle.{pair}
 use Rattle.rules.specs.Sun.{firstRow, secondRow, thirdRow, meanLongitudeRow, meanLongitude, centreProduct, centreSum}
@@ -17,6 +18,15 @@ use Rattle.laws.specs.Rounding.{rnd-near, rnd-under}
 use Rattle.laws.specs.Instant.{InRange}
 use Rattle.laws.specs.Polynomials.{sizes, polynomial-le}
 use Rattle.laws.specs.Angles.{pair-sized}
+
+-- the first multiple is the angle itself
+pub centreProduct-one : (t : Tt) (amplitude : List ℤ)
+    → centreProduct t amplitude (pos 1) ≡ polynomial amplitude (t .0) *ℤ pair (arguments t .sun) .sine
+unfolding centreProduct
+centreProduct-one t amplitude = ap (λ (a : ℤ). polynomial amplitude (t .0) *ℤ pair a .sine) (one (arguments t .sun))
+  where
+    one : (a : ℤ) → pos 1 *ℤ a ≡ a
+    one a = ring (a ∷ []) (lit (pos 1) ⊗ v0) v0 tt
 
 pub centreProduct-le : (t : Tt) (amplitude : List ℤ) (multiple : ℤ) → InRange (t .0)
     → natAbs (centreProduct t amplitude multiple) ≤ sizes amplitude * unit

@@ -36,7 +36,15 @@ pub refused-line-is : (n : ℕ) → refusedLine n ≡ refusedText ++ decimal (po
 unfolding refusedLine
 refused-line-is n = refl
 
+pub refused-answer : (n : ℤ) (r : Refusal) → answerLine n (Instants.Refused r) ≡ refusedText ++ decimal (pos (number r))
+unfolding answerLine
+refused-answer n r = refused-line-is (number r)
+
 -- ---- day number, UT and TT
+
+pub at-answer : (n : ℤ) (u : Ut) (t : Tt) → answerLine n (Instants.At u t) ≡ threeNumbers n (u .0) (t .0)
+unfolding answerLine
+at-answer n u t = refl
 
 pub three-numbers-are : (a b c : ℤ) → threeNumbers a b c ≡ decimal a ++ (space ∷ (decimal b ++ (space ∷ decimal c)))
 unfolding threeNumbers

@@ -1,12 +1,14 @@
 // What `times` prints for a line, put at the front of lent memory.
 ghost use mathlib.Core.Path.{_≡_};
 ghost use Prim.Native.Nat.{ℕ, _≤_};
+ghost use mathlib.Core.List.{_++_};
 ghost use lib.IntN.{ℤ};
 ghost use lib.ListN.{length};
 ghost use lib.Seq.{sets};
 ghost use Rattle.rules.specs.Calendar.{dayNumber};
 ghost use Rattle.rules.specs.Dates as dates;
 ghost use Rattle.rules.specs.Times as rule;
+ghost use Rattle.laws.specs.Times.{refusedText};
 use crate::decimals::put;
 use rules::Instants;
 use rules::Line;
@@ -14,10 +16,10 @@ use rules::Moment;
 use rules::Numbered;
 
 // `refused ` and the number.
-pub fn put_refused(number: u8, out: &mut [u8]) -> usize
+pub fn put_refused(number: i64, out: &mut [u8]) -> usize
     requires { ⌜ 64 ≤ length (now out) ⌝ }
-    ensures { λ r. ⌜ r ≡ length (rule.refusedLine number) ⌝ }
-    ensures { λ _. ⌜ now (out .exit) ≡ sets (now (out .entry)) 0 (rule.refusedLine number) ⌝ }
+    ensures { λ r. ⌜ r ≡ length (refusedText ++ rule.decimal number) ⌝ }
+    ensures { λ _. ⌜ now (out .exit) ≡ sets (now (out .entry)) 0 (refusedText ++ rule.decimal number) ⌝ }
 {
     out[0] = 114;
     out[1] = 101;
@@ -27,7 +29,7 @@ pub fn put_refused(number: u8, out: &mut [u8]) -> usize
     out[5] = 101;
     out[6] = 100;
     out[7] = 32;
-    put(number as i64, 8, out)
+    put(number, 8, out)
 }
 
 // Day number, UT and TT, with a space between.
@@ -51,7 +53,7 @@ pub fn put_instants(day: i64, instants: Instants, out: &mut [u8]) -> usize
 {
     match instants {
         Instants::At(ut, tt) => put_answer(day, ut.0, tt.0, out),
-        Instants::Refused(r) => put_refused(refusals::number_of(r), out),
+        Instants::Refused(r) => put_refused(refusals::number(r), out),
     }
 }
 
@@ -63,7 +65,7 @@ pub fn put_moment(moment: Moment, out: &mut [u8]) -> usize
 {
     match calendar::day_of(moment.date) {
         Numbered::Day(n) => put_instants(n, calendar::instants(moment), out),
-        Numbered::Refused(r) => put_refused(refusals::number_of(r), out),
+        Numbered::Refused(r) => put_refused(refusals::number(r), out),
     }
 }
 

@@ -1,13 +1,19 @@
-// The numbers of the refusals: document 01, "Refusal numbers".
-ghost use mathlib.Core.Path.{_≡_};
-ghost use Rattle.rules.specs.Refusals.{number};
-use rules::Refusal;
+// The numbers of the refusals.
 
-// The number of a refusal, 1 to 13.
-pub fn number_of(refusal: Refusal) -> u8
-    ensures { λ r. ⌜ r ≡ number refusal ⌝ }
+use rules::Refusal;
+ghost use mathlib.Core.Path.{_≡_};
+ghost use lib.IntN.{pos};
+ghost use Rattle.rules.specs.Refusals as rule;
+
+// The number of a refusal.
+//
+// Given: why nothing is answered.
+// Returned: from 1 to 13.
+// Rule: 01, "Refusal numbers".
+pub fn number(r: Refusal) -> i64
+    ensures { λ n. ⌜ n ≡ pos (rule.number r) ⌝ }
 {
-    match refusal {
+    match r {
         Refusal::Year => 1,
         Refusal::Day => 2,
         Refusal::Time => 3,

@@ -2,7 +2,7 @@
 use mathlib.Core.Path.{_≡_, sym, _∙_}
 use Prim.Native.Nat.{ℕ, _+_, _≤_}
 use native.Mathlib.Omega.{arith}
-use lib.IntN.{ℤ, pos, negℤ, natAbs, _-ℤ_, +ℤ-idl}
+use lib.IntN.{negℤ, natAbs, +ℤ-idl}
 use Rattle.rules.specs.Units.{unit}
 use Rattle.rules.specs.Circle.{inQuarter}
 use Rattle.laws.specs.Near.{upTo-le}

@@ -1,10 +1,10 @@
 -- `circle::pair` meets its contract.
 use mathlib.Core.Path.{_≡_, ap, _∙_}
-use Prim.Native.Nat.{ℕ, _-_, _/_, _%_, _≤_, _<_}
+use Prim.Native.Nat.{ℕ, _-_, _/_, _%_, _<_}
 use native.Mathlib.Omega.{arith}
 use lib.Dec.{lit<}
-use lib.IntN.{ℤ, pos, natAbs}
-use lib.Signed.{quotZ, remZ, ltZ-yes}
+use lib.IntN.{pos}
+use lib.Signed.{ltZ-yes}
 use borrow.Author.Needs.{needs}
 use mir.Facts.{toZ-ofZ}
 use Rattle.rules.specs.Units.{unit, circle, quarter}
@@ -14,7 +14,6 @@ use Rattle.laws.specs.Modulo.{modulo-lt}
 use Rattle.laws.specs.Near.{upTo-pos}
 use Rattle.laws.specs.Angles.{pairToQuarter-sized}
 use Rattle.words.specs.Holds.{Holds, bits, _/ʷ_, _%ʷ_, got, lit, div, div-ok, rem}
-use Rattle.circle.specs.Given.{QuarterGiven}
 use Rattle.circle.proofs.pair.Statement.{statement}
 use Rattle.circle.proofs.pair.Tie as tie
 

@@ -2,8 +2,7 @@
 use mathlib.Core.Path.{_≡_, sym, ap, _∙_}
 use mathlib.Core.Bool.{true, false}
 use lib.Dec.{eqb}
-use lib.IntN.{ℤ, pos, natAbs}
-use borrow.Author.Needs.{needs}
+use lib.IntN.{pos, natAbs}
 use borrow.Author.Tests.{eq-eqb, ne-eqb}
 use Rattle.rules.specs.Units.{halfQuarter}
 use Rattle.rules.specs.Circle as rule

@@ -1,16 +1,15 @@
 -- `circle::pair_to_quarter` meets its contract.
-use mathlib.Core.Path.{_≡_, ap, _∙_}
+use mathlib.Core.Path.{_≡_, ap}
 use Prim.Native.Nat.{ℕ, _-_, _≤_, _<_}
 use native.Mathlib.Omega.{arith}
-use lib.IntN.{ℤ, pos, natAbs, _-ℤ_}
+use lib.IntN.{pos, natAbs}
 use Rattle.integers.specs.Difference.{leZ-true, leZ-false}
 use Rattle.rules.specs.Units.{unit, quarter, halfQuarter}
-use Rattle.rules.specs.declared.Pair.{Pair}
 use Rattle.rules.specs.Circle as rule
-use Rattle.laws.specs.Near.{UpTo, upTo-pos, upTo-is, upTo-le}
+use Rattle.laws.specs.Near.{upTo-pos, upTo-is, upTo-le}
 use Rattle.laws.specs.Folding.{lower-half, upper-half}
 use Rattle.laws.specs.Angles.{pairToHalf-sized}
-use Rattle.words.specs.Holds.{Holds, bits, _-ʷ_, arg, got, lit, sub-nat, sub-nat-ok}
+use Rattle.words.specs.Holds.{Holds, bits, _-ʷ_, got, lit, sub-nat, sub-nat-ok}
 use Rattle.circle.proofs.pair_to_quarter.Statement.{statement}
 use Rattle.circle.proofs.pair_to_quarter.Tie as tie
 

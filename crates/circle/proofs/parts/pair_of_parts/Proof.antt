@@ -1,13 +1,13 @@
 -- `circle::parts::pair_of_parts` meets its contract.
-use Prim.Native.Nat.{ℕ, _*_, _≤_}
-use mathlib.Core.Path.{_≡_, _∙_}
+use Prim.Native.Nat.{_*_}
+use mathlib.Core.Path.{_∙_}
 use native.Mathlib.Omega.{arith}
 use lib.Dec.{lit≤}
-use lib.IntN.{ℤ, pos, _*ℤ_}
+use lib.IntN.{pos, _*ℤ_}
 use lib.Signed.{ltZ-yes}
 use borrow.Author.Needs.{needs}
 use Rattle.rules.specs.Units.{unit}
-use Rattle.rules.specs.Circle.{squareParts, stages, sineRow, cosineRow, rawSine, rawCosine, pairOfParts}
+use Rattle.rules.specs.Circle.{squareParts, stages, sineRow, rawSine, rawCosine, pairOfParts}
 use Rattle.laws.specs.Near.{upTo-le}
 use Rattle.laws.specs.Circle.{halfQuarterParts, square-range, sine-stages-range, rawSine-range, rawCosine-range}
 use Rattle.laws.specs.CircleLength.{rawPair, lengthOf-pos}

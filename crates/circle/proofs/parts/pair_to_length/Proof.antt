@@ -1,12 +1,10 @@
 -- `circle::parts::pair_to_length` meets its contract.
-use Prim.Native.Nat.{ℕ, _+_, _*_, _≤_, _<_, _^_}
-use mathlib.Core.Path.{_≡_, _∙_}
+use Prim.Native.Nat.{ℕ, _+_, _*_, _≤_}
+use mathlib.Core.Path.{_≡_}
 use native.Mathlib.Omega.{arith}
 use native.Mathlib.Nat.{mul-le-mul}
 use lib.Dec.{le→leb}
 use lib.IntN.{ℤ, pos, natAbs, _+ℤ_, _*ℤ_}
-use lib.Signed.{_≤ℤ_}
-use borrow.Author.Needs.{needs}
 use Rattle.integers.specs.Size.{square-abs}
 use Rattle.rules.specs.Units.{unit}
 use Rattle.rules.specs.declared.Pair.{Pair}

@@ -1,6 +1,6 @@
 -- `circle::parts::part_to` meets its contract.
 use Prim.Native.Nat.{ℕ, _*_, _<_}
-use mathlib.Core.Path.{_≡_, _∙_}
+use mathlib.Core.Path.{_∙_}
 use native.Mathlib.Omega.{arith}
 use lib.Dec.{lt→ltb}
 use lib.IntN.{ℤ, pos, negsuc, natAbs, _*ℤ_}

@@ -1,6 +1,5 @@
 -- `circle::parts::radian_parts` meets its contract.
-use mathlib.Core.Path.{_≡_, _∙_}
-use lib.IntN.{ℤ}
+use mathlib.Core.Path.{_∙_}
 use borrow.Author.Needs.{needs}
 use Rattle.rules.specs.Units.{halfQuarter}
 use Rattle.rules.specs.Circle.{radianParts}

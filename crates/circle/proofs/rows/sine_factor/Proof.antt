@@ -1,6 +1,5 @@
 -- `circle::rows::sine_factor` meets its contract: what p is after each stage, and that it lies from nought to a whole.
 use Prim.Native.Nat.{ℕ, _≤_, _<_}
-use mathlib.Core.Path.{_≡_}
 use lib.Dec.{lit<, lit≤}
 use lib.IntN.{ℤ, pos}
 use Rattle.rules.specs.Units.{unit}

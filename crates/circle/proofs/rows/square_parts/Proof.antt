@@ -1,8 +1,8 @@
 -- `circle::rows::square_parts` meets its contract.
 use Prim.Native.Nat.{_*_}
-use mathlib.Core.Path.{_≡_, _∙_}
+use mathlib.Core.Path.{_∙_}
 use lib.Dec.{lit≤}
-use lib.IntN.{ℤ, _*ℤ_}
+use lib.IntN.{_*ℤ_}
 use lib.Signed.{ltZ-yes}
 use borrow.Author.Needs.{needs}
 use Rattle.rules.specs.Units.{unit}

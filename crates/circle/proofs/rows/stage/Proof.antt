@@ -1,10 +1,8 @@
 -- `circle::rows::stage` meets its contract.
-use Prim.Native.Nat.{ℕ, _*_, _≤_, _<_}
-use mathlib.Core.Path.{_≡_, _∙_}
-use native.Mathlib.Nat.{mul-le-mul}
+use Prim.Native.Nat.{_*_, _<_}
 use native.Mathlib.Omega.{arith}
 use lib.Dec.{lt→ltb}
-use lib.IntN.{ℤ, pos, negsuc, natAbs, _-ℤ_, _*ℤ_}
+use lib.IntN.{ℤ, pos, negsuc, natAbs, _*ℤ_}
 use lib.Signed.{_<ℤ_}
 use Rattle.integers.specs.Size.{abs-mul}
 use Rattle.rules.specs.Units.{unit}

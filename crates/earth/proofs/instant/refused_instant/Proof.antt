@@ -1,5 +1,5 @@
 -- `earth::instant::refused_instant` meets its contract.
-use mathlib.Core.Path.{_≡_, ap, _∙_}
+use mathlib.Core.Path.{_≡_, ap}
 use mathlib.Core.Bool.{not}
 use borrow.Author.Needs.{needs}
 use mir.Syntax.{w64}

@@ -1,11 +1,10 @@
 -- `earth::sidereal::sidereal_of` meets its contract.
 use mathlib.Core.Path.{_≡_, _∙_}
-use Prim.Native.Nat.{_*_, _≤_, _^_}
-use native.Mathlib.Nat.{le-of-lt}
+use Prim.Native.Nat.{_*_}
 use native.Mathlib.Omega.{arith}
 use lib.Dec.{lit<}
 use borrow.Author.Needs.{needs}
-use lib.IntN.{pos, natAbs, _*ℤ_}
+use lib.IntN.{pos, _*ℤ_}
 use mir.Syntax.{w64}
 use mir.Val.{toZ, ofZ}
 use Rattle.rules.specs.Units.{day}

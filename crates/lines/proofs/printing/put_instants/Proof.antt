@@ -1,6 +1,6 @@
 -- `lines::printing::put_instants` meets its contract.
 use mathlib.Core.Path.{_≡_, refl, sym, _∙_, ap}
-use mathlib.Core.List.{List}
+use mathlib.Core.List.{_++_}
 use Prim.Native.Nat.{ℕ}
 use lib.ListN.{length}
 use lib.Seq.{sets}
@@ -13,18 +13,10 @@ use Rattle.rules.specs.declared.Ut.{Ut}
 use Rattle.rules.specs.declared.Tt.{Tt}
 use Rattle.rules.specs.declared.Instants.{Instants}
 use Rattle.rules.specs.declared.Refusal.{Refusal}
-use Rattle.rules.specs.Refusals.{number}
-use Rattle.rules.specs.Times.{threeNumbers, refusedLine, answerLine}
+use Rattle.rules.specs.Times.{decimal, threeNumbers, answerLine}
+use Rattle.laws.specs.Times.{refusedText, refused-answer, at-answer}
 use Rattle.lines.proofs.printing.put_instants.Statement.{statement}
 use Rattle.lines.proofs.printing.put_instants.Tie as tie
-
-at-line : (n : ℤ) (u : Ut) (t : Tt) → answerLine n (Instants.At u t) ≡ threeNumbers n (u .0) (t .0)
-unfolding answerLine
-at-line n u t = refl
-
-refused-is : (n : ℤ) (r : Refusal) → answerLine n (Instants.Refused r) ≡ refusedLine (number r)
-unfolding answerLine
-refused-is n r = refl
 
 enum-known-instants : tie.Need-enum-known-instants
 enum-known-instants c = search needs
@@ -35,8 +27,8 @@ put-answer-requires c κs = search needs
 enum-known-instants-2 : tie.Need-enum-known-instants-2
 enum-known-instants-2 c = search needs
 
-number-of-requires : tie.Need-number-of-requires
-number-of-requires c κs = search needs
+number-requires : tie.Need-number-requires
+number-requires c κs = search needs
 
 put-refused-requires : tie.Need-put-refused-requires
 put-refused-requires c κs = search needs
@@ -61,7 +53,7 @@ module _ (c : tie.After-put-answer) where
       ≡ answerLine (start .args .day) (start .args .instants)
   line-is =
       rw (toZ-ofZ (start .fits .day), toZ-ofZ (sfits-of {z = u .0} (c .before .before .struct-told .given .0 .1)), toZ-ofZ (sfits-of {z = t .0} (c .before .struct-told2 .given .0 .1)))
-      (sym (ap (answerLine (start .args .day)) (told .instants .given .1) ∙ at-line (start .args .day) u t))
+      (sym (ap (answerLine (start .args .day)) (told .instants .given .1) ∙ at-answer (start .args .day) u t))
 
 returns : tie.Need-returns
 returns c =
@@ -78,10 +70,10 @@ module _ (c : tie.After-put-refused) where
   abbrev start-2 : tie.Start
   start-2 = told-2 .before .before .before
 
-  refused-line : refusedLine (c .before .before .number-of .result) ≡ answerLine (start-2 .args .day) (start-2 .args .instants)
+  refused-line : refusedText ++ decimal (toZ w64 (ofZ w64 (c .before .before .number .result))) ≡ answerLine (start-2 .args .day) (start-2 .args .instants)
   refused-line =
-      ap refusedLine (c .before .before .number-of .ensures)
-      ∙ sym (ap (answerLine (start-2 .args .day)) (told-2 .instants2 .given .1) ∙ refused-is (start-2 .args .day) (told-2 .instants2 .given .0 .0))
+      ap (λ z. refusedText ++ decimal z) (toZ-ofZ (sfits-of (c .before .before .number .ok)) ∙ c .before .before .number .ensures)
+      ∙ sym (ap (answerLine (start-2 .args .day)) (told-2 .instants2 .given .1) ∙ refused-answer (start-2 .args .day) (told-2 .instants2 .given .0 .0))
 
 returns-2 : tie.Need-returns-2
 returns-2 c =
@@ -97,7 +89,7 @@ put-instants-spec =
     enum-known-instants
     put-answer-requires
     enum-known-instants-2
-    number-of-requires
+    number-requires
     put-refused-requires
     same-length
     returns

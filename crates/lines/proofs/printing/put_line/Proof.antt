@@ -1,5 +1,7 @@
 -- `lines::printing::put_line` meets its contract.
 use mathlib.Core.Path.{_≡_, refl, sym, _∙_, ap}
+use mathlib.Core.List.{_++_}
+use lib.IntN.{pos}
 use lib.ListN.{length}
 use lib.Seq.{sets}
 use borrow.Author.Needs.{needs}
@@ -7,7 +9,8 @@ use Rattle.rules.specs.declared.Moment.{Moment}
 use Rattle.rules.specs.declared.Line.{Line}
 use Rattle.rules.specs.Calendar.{dayNumber}
 use Rattle.rules.specs.Dates.{instants}
-use Rattle.rules.specs.Times.{refusedLine, answerLine, printed}
+use Rattle.rules.specs.Times.{decimal, answerLine, printed}
+use Rattle.laws.specs.Times.{refusedText, refused-line-is}
 use Rattle.lines.proofs.printing.put_line.Statement.{statement}
 use Rattle.lines.proofs.printing.put_line.Tie as tie
 
@@ -15,9 +18,9 @@ of-is : (m : Moment) → printed (Line.Of m) ≡ answerLine (dayNumber (m .date)
 unfolding printed
 of-is m = refl
 
-other-is : printed Line.Other ≡ refusedLine 0
+other-is : printed Line.Other ≡ refusedText ++ decimal (pos 0)
 unfolding printed
-other-is = refl
+other-is = refused-line-is 0
 
 enum-known-line : tie.Need-enum-known-line
 enum-known-line c = search needs

@@ -1,5 +1,6 @@
 -- `lines::printing::put_moment` meets its contract: a refused date refuses its moment.
 use mathlib.Core.Path.{_≡_, refl, sym, _∙_, ap}
+use mathlib.Core.List.{_++_}
 use lib.ListN.{length}
 use lib.Seq.{sets}
 use lib.IntN.{ℤ}
@@ -10,18 +11,13 @@ use borrow.Author.Needs.{needs, sfits-of}
 use Rattle.rules.specs.declared.Refusal.{Refusal}
 use Rattle.rules.specs.declared.Numbered.{Numbered}
 use Rattle.rules.specs.declared.Instants.{Instants}
-use Rattle.rules.specs.Refusals.{number}
 use Rattle.rules.specs.Calendar.{dayNumber, dayOf}
 use Rattle.rules.specs.Dates.{instants}
-use Rattle.rules.specs.Times.{refusedLine, answerLine}
+use Rattle.rules.specs.Times.{decimal, answerLine}
 use Rattle.laws.specs.DayNumbers.{day-of-given}
-use Rattle.laws.specs.Times.{instants-of-refused}
+use Rattle.laws.specs.Times.{refusedText, refused-answer, instants-of-refused}
 use Rattle.lines.proofs.printing.put_moment.Statement.{statement}
 use Rattle.lines.proofs.printing.put_moment.Tie as tie
-
-refused-is : (n : ℤ) (r : Refusal) → answerLine n (Instants.Refused r) ≡ refusedLine (number r)
-unfolding answerLine
-refused-is n r = refl
 
 day-of-requires : tie.Need-day-of-requires
 day-of-requires c κs = search needs
@@ -38,8 +34,8 @@ put-instants-requires c κs = search needs
 enum-known-r : tie.Need-enum-known-r
 enum-known-r c = search needs
 
-number-of-requires : tie.Need-number-of-requires
-number-of-requires c κs = search needs
+number-requires : tie.Need-number-requires
+number-requires c κs = search needs
 
 put-refused-requires : tie.Need-put-refused-requires
 put-refused-requires c κs = search needs
@@ -87,13 +83,13 @@ module _ (c : tie.After-put-refused) where
   abbrev r : Refusal
   r = told-2 .r .given .0 .0
 
-  refused-line : refusedLine (c .before .before .number-of .result)
+  refused-line : refusedText ++ decimal (toZ w64 (ofZ w64 (c .before .before .number .result)))
       ≡ answerLine (dayNumber (start-2 .args .moment .date)) (instants (start-2 .args .moment))
   refused-line =
-      ap refusedLine (c .before .before .number-of .ensures)
+      ap (λ z. refusedText ++ decimal z) (toZ-ofZ (sfits-of (c .before .before .number .ok)) ∙ c .before .before .number .ensures)
       ∙ sym (ap (answerLine (dayNumber (start-2 .args .moment .date)))
       (instants-of-refused (start-2 .args .moment) r (sym (told-2 .before .before .day-of .ensures) ∙ told-2 .r .given .1))
-      ∙ refused-is (dayNumber (start-2 .args .moment .date)) r)
+      ∙ refused-answer (dayNumber (start-2 .args .moment .date)) r)
 
 returns-2 : tie.Need-returns-2
 returns-2 c =
@@ -111,7 +107,7 @@ put-moment-spec =
     instants-requires
     put-instants-requires
     enum-known-r
-    number-of-requires
+    number-requires
     put-refused-requires
     same-length
     returns

@@ -3,16 +3,13 @@ use mathlib.Core.Path.{_≡_, refl, sym, _∙_, ap}
 use mathlib.Core.List.{List, _++_}
 use Prim.Native.Nat.{ℕ, _+_, _≤_}
 use native.Mathlib.Omega.{arith}
-use lib.IntN.{ℤ, pos}
 use lib.ListN.{length, length-set, length-append}
 use lib.Seq.{sets, length-sets}
-use mir.Syntax.{w64}
-use mir.Val.{toZ}
-use mir.Facts.{toZ-pos}
+use mir.Facts.{toZ-ofZ}
 use borrow.Author.Needs.{needs}
-use Rattle.rules.specs.Times.{decimal, refusedLine}
+use Rattle.rules.specs.Times.{decimal}
 use Rattle.laws.specs.Decimal.{sets-append}
-use Rattle.laws.specs.Times.{refusedText, refused-line-is}
+use Rattle.laws.specs.Times.{refusedText}
 use Rattle.lines.proofs.printing.put_refused.Statement.{statement}
 use Rattle.lines.proofs.printing.put_refused.Tie as tie
 
@@ -40,9 +37,6 @@ slice-write-out-7 c = simp length-set (omega arith)
 slice-write-out-8 : tie.Need-slice-write-out-8
 slice-write-out-8 c = simp length-set (omega arith)
 
-cast-put : tie.Need-cast-put
-cast-put c = search needs
-
 put-requires : tie.Need-put-requires
 put-requires c κs = simp length-set (omega arith)
 
@@ -53,30 +47,24 @@ module _ (c : tie.After-put) where
   abbrev room : List ℕ
   room = start .args .out .now
 
-  number-is : toZ w64 (start .args .number) ≡ pos (start .args .number)
-  number-is = toZ-pos w64 {n = start .args .number} (omega (arith, start .fits .number .fits))
+  abbrev text : List ℕ
+  text = decimal (start .args .number)
 
-  after : c .put .result ≡ 8 + length (decimal (pos (start .args .number)))
-  after = rw number-is at (c .put .ensures .0)
+  after : c .put .result ≡ 8 + length text
+  after = rw (toZ-ofZ (start .fits .number)) at (c .put .ensures .0)
 
-  with-number : c .put .last .1 .1 .0 ≡ sets room 0 (refusedLine (start .args .number))
-  with-number =
-      (rw number-is at (c .put .ensures .1))
-      ∙ sym (sets-append room 0 refusedText (decimal (pos (start .args .number))))
-      ∙ ap (sets room 0) (sym (refused-line-is (start .args .number)))
+  with-number : c .put .last .1 .1 .0 ≡ sets room 0 (refusedText ++ text)
+  with-number = (rw (toZ-ofZ (start .fits .number)) at (c .put .ensures .1)) ∙ sym (sets-append room 0 refusedText text)
 
 same-length : tie.Need-same-length
 same-length c =
     let x = c .before .before in
-    ap length (with-number x) ∙ length-sets (room x) 0 (refusedLine (start x .args .number))
+    ap length (with-number x) ∙ length-sets (room x) 0 (refusedText ++ text x)
 
 returns : tie.Need-returns
 returns c =
     let x = c .before .before in
-    let n = start x .args .number in (
-      after x ∙ sym (ap length (refused-line-is n) ∙ length-append refusedText (decimal (pos n))),
-      with-number x,
-    )
+    (after x ∙ sym (length-append refusedText (text x)), with-number x)
 
 pub put-refused-spec : {M : Type 1} → statement M
 put-refused-spec =
@@ -90,7 +78,6 @@ put-refused-spec =
     slice-write-out-6
     slice-write-out-7
     slice-write-out-8
-    cast-put
     put-requires
     same-length
     returns)
