@@ -2,5 +2,6 @@
 // A function whose rule asks something of its numbers tests that first, so that none relies on its caller.
 
 pub mod angles;
+pub mod dates;
 pub mod numbers;
 pub mod turns;

@@ -3,6 +3,7 @@ ghost use mathlib.Core.Path.{_≡_};
 ghost use lib.ListN.{length};
 ghost use Rattle.rules.specs.Lines as rule;
 ghost use Rattle.rules.specs.Times.{printed, overlaid};
+ghost use Rattle.lines.specs.Room.{printedIn};
 use crate::fields::difference;
 use crate::fields::field;
 use crate::fields::of_difference;
@@ -59,5 +60,21 @@ pub fn print_line(line: &[u8], out: &mut [u8; 64]) -> usize
     ensures answer { λ r. ⌜ r ≡ length (printed (rule.lineOf (now (line .entry)))) ⌝ }
     ensures kept { λ _. ⌜ now (out .exit) ≡ overlaid (printed (rule.lineOf (now (line .entry)))) (now (out .entry)) ⌝ }
 {
+    put_line(line_of(line), out)
+}
+
+// The same into a room of any length.
+//
+// Given: any bytes, and any room.
+// Returned: the length of the answer, as of `print_line`; or 0 where the room has fewer than 64
+// bytes, and then it stays.
+// Rule: 01, "Dates".
+pub fn print_into(line: &[u8], out: &mut [u8]) -> usize
+    ensures answer { λ r. ⌜ r ≡ length (printedIn (now (out .entry)) (rule.lineOf (now (line .entry)))) ⌝ }
+    ensures kept { λ _. ⌜ now (out .exit) ≡ overlaid (printedIn (now (out .entry)) (rule.lineOf (now (line .entry)))) (now (out .entry)) ⌝ }
+{
+    if out.len() < 64 {
+        return 0;
+    }
     put_line(line_of(line), out)
 }
