@@ -1,8 +1,8 @@
-// What the module's firmware in C calls, with plain numbers and slices of numbers: nothing but calls.
+// What the module's firmware in C calls, with plain numbers and slices: nothing but calls.
 // include/turbelicus.h says the same in C.
 //
-// No function asks anything of its numbers. An answer that may be refused is a struct: the refusal's
-// number and noughts, or 0 and the values.
+// No function asks anything of its numbers. An answer that may be refused is a struct: the number
+// of the refusal and noughts, or 0 and the values.
 
 pub mod lists;
 pub mod places;

@@ -58,14 +58,15 @@ pub extern "C" fn turbelicus_list_star(file: &[u8], index: usize) -> TurbelicusS
 
 // A list file of a row of numbers, four to a star, written at once.
 //
-// Given: numbers, right ascension and declination in µas, their motions in µas a year, of each star;
-// room, any.
-// Returned: the file's length, and the file at the start of room; the bytes past it stay. Or refusal
-// 5 or 11, and all bytes stay; 11 also where the last star has not all its numbers.
+// Given: numbers, right ascension and declination in µas and their motions in µas a year, of each
+// star; room, any.
+// Returned: the file's length, and the file at the start of room; the bytes past it stay. Or
+// refusal 5 or 11, and all bytes stay; 11 also where the last star has not all its numbers.
 // Rule: 01, "Lists".
 #[no_mangle]
 pub extern "C" fn turbelicus_list_write(numbers: &[i64], room: &mut [u8]) -> TurbelicusWritten
-    ensures { λ r. ⌜ (r ≡ writtenOut (listedAnswer (numbersWritten (now (numbers .entry)) (now (room .entry)))))
+    ensures { λ r. ⌜ (r ≡ writtenOut (listedAnswer
+        (numbersWritten (now (numbers .entry)) (now (room .entry)))))
         × (now (room .exit) ≡ roomAfterNumbers (now (numbers .entry)) (now (room .entry))) ⌝ }
 {
     written_out(star_file::writing::list_write(numbers, room))

@@ -24,9 +24,9 @@ returns c =
     let s = c .before .before .a .given .0 .0 in
     let ra-held : toZ w64 (ofZ w64 (s .ra)) ≡ s .ra = search needs in
     let declination-held : toZ w64 (ofZ w64 (s .declination)) ≡ s .declination = search needs in
-    let ra-motion-held : toZ w32 (ofZ w32 (s .«ra_motion»)) ≡ s .«ra_motion» = search needs in
-    let declination-motion-held : toZ w32 (ofZ w32 (s .«declination_motion»)) ≡ s .«declination_motion» = search needs in
-    rw (c .before .before .a .given .1, ra-held, declination-held, ra-motion-held, declination-motion-held)
+    let across-held : toZ w32 (ofZ w32 (s .«ra_motion»)) ≡ s .«ra_motion» = search needs in
+    let along-held : toZ w32 (ofZ w32 (s .«declination_motion»)) ≡ s .«declination_motion» = search needs in
+    rw (c .before .before .a .given .1, ra-held, declination-held, across-held, along-held)
 
 returns-2 : tie.Need-returns-2
 unfolding starredOut starredAnswer refused
