@@ -46,6 +46,7 @@ pub mod Place
 -- tests: computed at each number below a bound; of ranges
 pub mod Every
 pub mod Ranges
+pub mod Checks
 -- dates: spans laid end to end, the calendar
 pub mod Rows
 pub mod Calendar
