@@ -1,24 +1,22 @@
-// Sine and cosine of an angle, document 01, "Sine and cosine".
+// Sine and cosine of an angle, and the angle read from two numbers: document 01, "Sine and cosine"
+// and "Turns, readings, place". Angles are in µas, all else in parts of 2^30.
 
+use crate::units::QUARTER;
+use rules::Direction;
 use rules::Pair;
 ghost use mathlib.Core.Path.{_≡_};
-ghost use Prim.Native.Nat.{ℕ};
-ghost use lib.IntN.{ℤ, natAbs};
-ghost use Rattle.rules.specs.Units.{quarter, halfQuarter};
-ghost use Rattle.rules.specs.Circle as rule;
-ghost use Rattle.laws.specs.Near.{UpTo};
-ghost use Rattle.circle.specs.Given.{QuarterGiven};
+ghost use lib.IntN.{ℤ};
+ghost use Rattle.rules.specs.Length.{squares};
+ghost use Rattle.rules.specs.Turning.{Accepted};
+ghost use Rattle.rules.specs.Circle as circle;
+ghost use Rattle.rules.specs.Reading as readings;
 
+mod arcs;
+mod octants;
 mod parts;
+mod quarters;
 mod rows;
-
-// A quarter of the circle and half of that, in µas.
-const QUARTER: i64 = 324000000000;
-
-const HALF_QUARTER: i64 = 162000000000;
-
-// Both parts at half a quarter.
-const AT_HALF: i64 = 759250125;
+mod units;
 
 // Cosine and sine of an angle.
 //
@@ -26,64 +24,32 @@ const AT_HALF: i64 = 759250125;
 // Returned: the pair in parts of 2^30, no part larger than 2^30, its squared length accepted.
 // Rule: 01, "Sine and cosine".
 pub fn pair(a: i64) -> Pair
-    ensures { λ r. ⌜ r ≡ rule.pair a ⌝ }
+    ensures { λ r. ⌜ r ≡ circle.pair a ⌝ }
 {
     let m = whole::on_circle(a);
-    let p = pair_to_quarter(m % QUARTER);
-    in_quarter(m / QUARTER, p.cosine, p.sine)
+    let p = quarters::pair_to_quarter(m % QUARTER);
+    quarters::in_quarter(m / QUARTER, p.cosine, p.sine)
 }
 
-// The pair of r, from nought to a quarter: above half a quarter that of quarter - r, exchanged.
-fn pair_to_quarter(r: i64) -> Pair
-    requires { ⌜ UpTo r quarter ⌝ }
-    ensures { λ p. ⌜ p ≡ rule.pairToQuarter rule.pairToHalf (natAbs r) ⌝ }
+// The angle of (h, v), from the first axis towards the second.
+//
+// Given: h, v, any.
+// Returned: the angle in µas, from 0 to C - 1; 0 for (0, 0).
+// Rule: 01, "Reading an angle from (h, v)".
+pub fn reading(h: i32, v: i32) -> i64
+    ensures { λ r. ⌜ r ≡ readings.reading h v ⌝ }
 {
-    if r <= HALF_QUARTER {
-        return pair_to_half(r);
-    }
-    let p = pair_to_half(QUARTER - r);
-    Pair {
-        cosine: p.sine,
-        sine: p.cosine,
-    }
+    octants::reading_of(h as i64, v as i64)
 }
 
-// The pair of r, from nought to half a quarter, where both parts are AT_HALF.
-fn pair_to_half(r: i64) -> Pair
-    requires { ⌜ UpTo r halfQuarter ⌝ }
-    ensures { λ p. ⌜ p ≡ rule.pairToHalf (natAbs r) ⌝ }
+// The height of a direction above the plane of its first two axes: a declination or an altitude.
+//
+// Given: v, accepted.
+// Returned: the angle in µas, within a quarter of 0.
+// Rule: 01, "Heights and declinations".
+pub fn height(v: Direction) -> i64
+    requires { ⌜ Accepted (squares v) ⌝ }
+    ensures { λ r. ⌜ r ≡ readings.height v ⌝ }
 {
-    if r == HALF_QUARTER {
-        return Pair {
-            cosine: AT_HALF,
-            sine: AT_HALF,
-        };
-    }
-    parts::pair_of_parts(parts::radian_parts(r))
-}
-
-// (c, s) in the quarter q: (c, s), (-s, c), (-c, -s), (s, -c).
-fn in_quarter(q: i64, c: i64, s: i64) -> Pair
-    requires { ⌜ QuarterGiven q (record { cosine = c; sine = s }) ⌝ }
-    ensures { λ p. ⌜ p ≡ rule.inQuarter (natAbs q) (record { cosine = c; sine = s }) ⌝ }
-{
-    if q == 0 {
-        return Pair { cosine: c, sine: s };
-    }
-    if q == 1 {
-        return Pair {
-            cosine: -s,
-            sine: c,
-        };
-    }
-    if q == 2 {
-        return Pair {
-            cosine: -c,
-            sine: -s,
-        };
-    }
-    Pair {
-        cosine: s,
-        sine: -c,
-    }
+    octants::height_of(v.x, v.y, v.z)
 }

@@ -2,6 +2,9 @@
 // All but the angle is in parts of 2^30.
 
 use crate::rows;
+use crate::units::HALF;
+use crate::units::HALF_IN_PARTS;
+use crate::units::UNIT;
 use rules::Pair;
 ghost use mathlib.Core.Path.{_≡_};
 ghost use Prim.Native.Nat.{ℕ};
@@ -13,16 +16,8 @@ ghost use Rattle.laws.specs.Near.{UpTo};
 ghost use Rattle.laws.specs.Circle.{halfQuarterParts};
 ghost use Rattle.circle.specs.Given.{PartGiven, PairGiven};
 
-// The length of a pair, and 1 in a cosine or a sine.
-const UNIT: i64 = 1073741824;
-
-// Half a circle, in µas and in radians.
-const HALF: i64 = 648000000000;
-
-const HALF_IN_PARTS: i64 = 3373259426;
-
-// x = Rnd(r * 3,373,259,426 / 648,000,000,000): µas to radians. The product passes the word, so it is
-// carried.
+// x = Rnd(r * 3,373,259,426 / 648,000,000,000): µas to radians. The product passes the word, so it
+// is carried.
 pub fn radian_parts(r: i64) -> i64
     requires { ⌜ UpTo r halfQuarter ⌝ }
     ensures { λ x. ⌜ x ≡ radianParts r ⌝ }

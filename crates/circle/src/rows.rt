@@ -1,5 +1,6 @@
 // The two rows of document 01, "Sine and cosine", worked stage by stage. All is in parts of 2^30.
 
+use crate::units::UNIT;
 ghost use mathlib.Core.Path.{_≡_};
 ghost use Prim.Native.Nat.{ℕ, _≤_};
 ghost use lib.IntN.{ℤ, pos, natAbs};
@@ -7,9 +8,6 @@ ghost use Rattle.rules.specs.Units.{unit};
 ghost use Rattle.rules.specs.Circle as rule;
 ghost use Rattle.laws.specs.Near.{UpTo};
 ghost use Rattle.circle.specs.Given.{StageGiven};
-
-// 1 in a cosine or a sine.
-const UNIT: i64 = 1073741824;
 
 // w = Rnd(x^2 / 2^30).
 pub fn square_parts(x: i64) -> i64

@@ -1,3 +1,4 @@
 -- What the clauses of `earth` cite.
-pub mod Terms
 pub mod Fits
+pub mod Terms
+pub mod TermFits

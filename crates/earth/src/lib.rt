@@ -5,7 +5,8 @@
 pub mod arguments;
 mod instant;
 pub mod nutation;
-pub mod polynomials;
+mod polynomials;
 pub mod precession;
 pub mod sidereal;
 pub mod sun;
+mod terms;

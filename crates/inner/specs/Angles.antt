@@ -5,9 +5,9 @@ use Rattle.rules.specs.declared.Tt.{Tt}
 use Rattle.rules.specs.declared.Ut.{Ut}
 use Rattle.rules.specs.Refusals.{Answer}
 use Rattle.inner.specs.declared.angles.InnerAngle.{InnerAngle}
-use Rattle.inner.specs.declared.angles.InnerPrecessed.{InnerPrecessed}
-use Rattle.inner.specs.declared.angles.InnerArgued.{InnerArgued}
-use Rattle.inner.specs.declared.angles.InnerNutated.{InnerNutated}
+use Rattle.inner.specs.declared.angle_sets.InnerPrecessed.{InnerPrecessed}
+use Rattle.inner.specs.declared.angle_sets.InnerArgued.{InnerArgued}
+use Rattle.inner.specs.declared.angle_sets.InnerNutated.{InnerNutated}
 
 -- a plain number as a TT instant, as a UT instant
 abbrev pub inTt : ℤ → Tt

@@ -2,4 +2,5 @@
 pub mod Numbers
 pub mod Turns
 pub mod Angles
+pub mod Pairs
 pub mod Dates

@@ -3,7 +3,7 @@
 use mathlib.Core.Path.{_≡_, refl, sym, ap, _∙_}
 use mathlib.Core.List.{[], _∷_}
 use mathlib.Core.Bool.{Bool, true, false, cond}
-use Prim.Native.Nat.{ℕ, _+_, _*_, _≤_, _^_}
+use Prim.Native.Nat.{ℕ, _+_, _*_, _≤_, _<_, _^_}
 use native.Mathlib.Nat.{mul-le-mul-right}
 use native.Mathlib.Omega.{arith}
 use lib.Dec.{T, eqb, eqb→eq, lit<, lit≤}
@@ -21,7 +21,7 @@ use Rattle.laws.specs.Rounding.{rnd-near}
 use Rattle.laws.specs.Near.{Near, UpTo, upTo-pos, upTo-product, near-moved}
 use Rattle.laws.specs.Circle.{halfQuarterParts, sineError, cosineError, rawSine-near, rawCosine-near}
 use Rattle.laws.specs.Circle.{errors-angle}
-use Rattle.laws.specs.CircleLength.{cosine-moved, sine-moved}
+use Rattle.laws.specs.CircleLength.{lengthOf, length-near-unit, lengthOf-pos, cosine-moved, sine-moved}
 
 -- ---- the exception is what the rows give
 
@@ -96,6 +96,14 @@ radianParts-next-near r h =
     out x r k h t b p = ring (x ∷ r ∷ k ∷ h ∷ t ∷ b ∷ p ∷ [])
         (v0 ⊗ (v3 ⊗ v4) ⊖ v5 ⊗ (v1 ⊗ v6))
         (v1 ⊗ (v2 ⊗ v4 ⊖ v5 ⊗ v6) ⊕ v2 ⊗ v4 ⊖ v4 ⊗ ((v1 ⊕ lit (pos 1)) ⊗ v2 ⊖ v3 ⊗ v0)) tt
+
+-- the length that the pair is divided by: from 2^30 − 2 to 2^30 + 1, so never nought
+pub pair-length-near : (r : ℕ) → r ≤ halfQuarter
+    → (unit ≤ lengthOf (radianParts (pos r)) + 2) × (lengthOf (radianParts (pos r)) ≤ unit + 1)
+pair-length-near r h = length-near-unit (radianParts (pos r)) (radianParts-range r h)
+
+pub pair-length-pos : (r : ℕ) → r ≤ halfQuarter → 0 < lengthOf (radianParts (pos r))
+pair-length-pos r h = lengthOf-pos (radianParts (pos r)) (radianParts-range r h)
 
 pub radians-le : (r : ℕ) → r ≤ halfQuarter → 1000 * natAbs (pos (r * pi)) ≤ 786 * radian
 radians-le r h = omega arith

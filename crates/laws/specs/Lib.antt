@@ -9,6 +9,7 @@ pub mod Modulo
 pub mod Directions
 pub mod LengthNear
 pub mod Length
+-- sine and cosine: nearness, the series, the pair, the laws of angles
 pub mod Near
 pub mod Chain
 pub mod Series
@@ -19,6 +20,17 @@ pub mod CircleLength
 pub mod CircleToHalf
 pub mod Angles
 pub mod Neighbours
+-- the reading: near the arc, ranges, its promises
+pub mod Arc
+pub mod Certificates
+pub mod ArcSeries
+pub mod HalfQuarterLess
+pub mod ReadingRange
+pub mod Heights
+pub mod ReadingParts
+pub mod Octant
+pub mod Reading
+-- turns, and the angles of an instant
 pub mod Turn3
 pub mod Return3
 pub mod Turning
@@ -29,6 +41,8 @@ pub mod Polynomials
 pub mod Nutation
 pub mod Sun
 pub mod Sidereal
+pub mod Night
+pub mod Place
 -- tests: computed at each number below a bound; of ranges
 pub mod Every
 pub mod Ranges
@@ -41,17 +55,11 @@ pub mod Seconds
 pub mod Dates
 pub mod Instants
 pub mod Parts
+pub mod Bytes
+pub mod Records
+pub mod StarList
 -- lines of `times`
 pub mod Lines
 pub mod Decimal
 pub mod Times
 pub mod Sample
-pub mod Arc
-pub mod Certificates
-pub mod ArcSeries
-pub mod HalfQuarterLess
-pub mod ReadingRange
-pub mod Heights
-pub mod ReadingParts
-pub mod Octant
-pub mod Reading

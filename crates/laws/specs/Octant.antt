@@ -23,7 +23,8 @@ use Rattle.laws.specs.Angles.{pair-to-half}
 use Rattle.laws.specs.Certificates.{over, halfQuarterSine, overPower}
 use Rattle.laws.specs.HalfQuarterLess.{lessNumerator, lessDenominator, whole-less, cosine-less-near}
 use Rattle.laws.specs.HalfQuarterLess.{sine-less-near}
-use Rattle.laws.specs.Arc.{ratio, threeSevenths, arcNumerator, arcDenominator, arc-near, arc-range, arc-le}
+use Rattle.laws.specs.Arc.{ratio, threeSevenths, arcNumerator, arcDenominator, arc-near, arc-of-ratio-range}
+use Rattle.laws.specs.Arc.{arc-le}
 use Rattle.laws.specs.ArcSeries.{arc-ratio-near}
 use Rattle.laws.specs.ReadingRange.{angle-flat, angle-steep, angleToHalf-range}
 use Rattle.laws.specs.ReadingParts.{parts-of-arc, parts-of-less}
@@ -133,7 +134,7 @@ across-flat m n hn h =
     let D = arcDenominator m n in
     let k : 7 * m ≤ 3 * n = omega arith in
     let z = arc-le m n hn k in
-    let i = arc-range m n hn k in
+    let i = arc-of-ratio-range m n hn k in
     subst (λ x. Across x m n) (sym (parts-of-arc θ i))
     (across-of-near θ Y D m n (upTo-of-le θ threeSevenths halfQuarterParts (lit≤ tt) i)
     (near-of-le θ Y D 2015 2600 (lit≤ tt) (arc-near m n hn k)) (omega arith) (omega (arith, arc-ratio-near m n k)))
@@ -147,7 +148,7 @@ across-steep m a hn h =
     let Y = arcNumerator a b in
     let D = arcDenominator a b in
     let z = arc-le a b hb h in
-    let k = parts-of-less (arc (ratio a b)) (arc-range a b hb h) in
+    let k = parts-of-less (arc (ratio a b)) (arc-of-ratio-range a b hb h) in
     let x = pos (k .x) in
     let near = k .near Y D (arc-near a b hb h) in
     subst (λ x. Across x m (m + a)) (sym (k .is))

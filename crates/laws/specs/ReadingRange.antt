@@ -18,7 +18,7 @@ use Rattle.rules.specs.Reading.{arc, inMicroarcseconds, flat, tangent, angleToH
 use Rattle.rules.specs.Reading.{reading}
 use Rattle.laws.specs.Rounding.{rnd-pos, rndSize-low}
 use Rattle.laws.specs.Near.{UpTo, upTo-pos, upTo-of-le, upTo-less, upTo-more}
-use Rattle.laws.specs.Arc.{ratio, threeSevenths, arc-range}
+use Rattle.laws.specs.Arc.{ratio, threeSevenths, arc-of-ratio-range}
 
 -- ---- θ in µas
 
@@ -58,12 +58,12 @@ angleToHalf-range m n hn h = by (decLe (5 * m) (2 * n))
   where
     by : Dec (5 * m ≤ 2 * n) → UpTo (angleToHalf m n) halfQuarter
     by (yes k) = rw (angle-flat m n k)
-        (microarcseconds-range (arc (ratio m n)) (arc-range m n hn (omega arith)))
+        (microarcseconds-range (arc (ratio m n)) (arc-of-ratio-range m n hn (omega arith)))
     by (no k) =
         let l : 2 * n < 5 * m = lt-of-not-le k in
         let θ = arc (ratio (n - m) (n + m)) in
         rw (angle-steep m n l) (upTo-less (inMicroarcseconds θ) halfQuarter halfQuarter
-        (microarcseconds-range θ (arc-range (n - m) (n + m) (omega arith) (omega arith))) (lit≤ tt))
+        (microarcseconds-range θ (arc-of-ratio-range (n - m) (n + m) (omega arith) (omega arith))) (lit≤ tt))
 
 -- ---- to a quarter
 

@@ -20,9 +20,10 @@ use Rattle.rules.specs.declared.Turned.{Turned}
 use Rattle.rules.specs.declared.Prepared.{Prepared}
 use Rattle.rules.specs.declared.Placed.{Placed}
 use Rattle.rules.specs.declared.Listed.{Listed}
+use Rattle.rules.specs.declared.Starred.{Starred}
 use Rattle.rules.specs.Refusals.{number, Answer, given, refused, numberedAnswer, datedAnswer, instantsAnswer, angleAnswer}
 use Rattle.rules.specs.Refusals.{precessedAnswer, arguedAnswer, nutatedAnswer, turnedAnswer, placedAnswer, listedAnswer}
-use Rattle.rules.specs.Refusals.{parts, preparedAnswer}
+use Rattle.rules.specs.Refusals.{starredAnswer, parts, preparedAnswer}
 
 -- ---- refusals
 
@@ -159,6 +160,13 @@ listed-one (Listed.Count n) (Listed.Count m) e = ap (λ zs. Listed.Count (natAbs
 listed-one (Listed.Count n) (Listed.Refused s) e = never s 1 _ e
 listed-one (Listed.Refused r) (Listed.Count n) e = never r 1 _ (sym e)
 listed-one (Listed.Refused r) (Listed.Refused s) e = ap Listed.Refused (same-refusal r s 1 e)
+
+pub starred-one : (a b : Starred) → starredAnswer a ≡ starredAnswer b → a ≡ b
+unfolding starredAnswer
+starred-one (Starred.Of s) (Starred.Of t) e = ap (λ zs. Starred.Of (record { ra = at zs 0; declination = at zs 1; «ra_motion» = at zs 2; «declination_motion» = at zs 3 })) (same-values _ _ e)
+starred-one (Starred.Of s) (Starred.Refused r) e = never r 4 _ e
+starred-one (Starred.Refused r) (Starred.Of s) e = never r 4 _ (sym e)
+starred-one (Starred.Refused r) (Starred.Refused s) e = ap Starred.Refused (same-refusal r s 4 e)
 
 abbrev pairAt : List ℤ → ℕ → Pair
 pairAt zs i = record { cosine = at zs i; sine = at zs (i + 1) }

@@ -14,6 +14,11 @@ pub record PartFits (part l : ℤ) : Type 0 where
   pub length-pos : pos 0 <ℤ l
   pub length-le : natAbs l ≤ 2 ^ 32
 
+-- a direction whose squares' sum fits, and whose length is not nought
+pub record NotNought (v : Direction) : Type 0 where
+  pub fits : squares v < 2 ^ 63
+  pub length-pos : 0 < root (squares v)
+
 -- l is the length of v, and is not nought
 pub record HasLength (v : Direction) (l : ℤ) : Type 0 where
   pub fits : squares v < 2 ^ 63

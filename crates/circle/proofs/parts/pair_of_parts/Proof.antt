@@ -83,7 +83,9 @@ pair-to-length-requires c κs =
 
 returns : tie.Need-returns
 unfolding pairOfParts
-returns c = search needs ∙ rw (c-holds (c .before) .value, s-holds (c .before .before) .value) at (c .pair-to-length .ensures)
+returns c =
+    search needs
+    ∙ rw (c-holds (c .before) .value, s-holds (c .before .before) .value) at (c .pair-to-length .ensures)
 
 pub pair-of-parts-spec : {M : Type 1} → statement M
 pair-of-parts-spec =

@@ -80,7 +80,8 @@ cosine-holds c =
     (partTo-le (b .args .c) (length b) (b .pre .length-pos) (cosine-le-length b)) tt
 
 sine-holds : (c : tie.After-part-to2)
-    → Holds (bits (c .part-to2 .result)) (partTo (length (c .before .before .before)) (c .before .before .before .args .s)) unit
+    → Holds (bits (c .part-to2 .result))
+    (partTo (length (c .before .before .before)) (c .before .before .before .args .s)) unit
 sine-holds c =
     let b = c .before .before .before in
     got (rw (length-holds (c .before .before) .value, s-holds b .value) at (c .part-to2 .ensures))

@@ -50,7 +50,8 @@ quotient-holds : (c : tie.After-rnd-quotient)
     (rnd (c .before .args .w *ℤ c .before .args .p) (unit * natAbs (c .before .args .k))) unit
 quotient-holds c =
     let b = c .before in
-    got (rw (product-holds b .value, divisor-holds b .value, abs-mul (pos unit) (b .args .k)) at (c .rnd-quotient .ensures))
+    got
+    (rw (product-holds b .value, divisor-holds b .value, abs-mul (pos unit) (b .args .k)) at (c .rnd-quotient .ensures))
     (rnd-under (b .args .w *ℤ b .args .p) (unit * natAbs (b .args .k)) unit (omega (arith, b .pre .k-pos))
     (omega (arith, product-holds b .size, b .pre .k-pos))) tt
 

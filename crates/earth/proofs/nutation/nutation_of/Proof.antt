@@ -19,7 +19,7 @@ use Rattle.laws.specs.Instant.{InRange}
 use Rattle.laws.specs.Nutation.{longitude-product-le, obliquity-product-le, total-next, ten-terms}
 use Rattle.words.specs.Holds.{Holds, bits, _+ʷ_, got, lit, bounded, add-to, add-to-ok}
 use Rattle.earth.specs.Terms.{noTerm, termAt, productsOf}
-use Rattle.earth.specs.Fits.{term-fits}
+use Rattle.earth.specs.TermFits.{term-fits}
 use Rattle.earth.proofs.nutation.nutation_of.Statement.{statement}
 use Rattle.earth.proofs.nutation.nutation_of.Tie as tie
 

@@ -15,7 +15,7 @@ use Rattle.rules.specs.Nutation.{termAngle, longitudeAmplitude, obliquityAmplit
 use Rattle.laws.specs.Polynomials.{polynomial-le}
 use Rattle.laws.specs.Angles.{pair-sized}
 use Rattle.words.specs.Holds.{Holds, bits, _*ʷ_, arg, got, mul, mul-ok}
-use Rattle.earth.specs.Fits.{arguments-fit}
+use Rattle.earth.specs.TermFits.{arguments-fit}
 use Rattle.earth.proofs.Held.{instant-held}
 use Rattle.earth.proofs.nutation.products.Statement.{statement}
 use Rattle.earth.proofs.nutation.products.Tie as tie

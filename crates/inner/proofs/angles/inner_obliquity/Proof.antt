@@ -16,7 +16,8 @@ angle-out-requires c κs = search needs
 returns : tie.Need-returns
 returns c =
     c .angle-out .ensures
-    ∙ ap (λ a. innerAngle (angleAnswer a)) (rw (toZ-ofZ (c .before .before .fits .tt)) at (c .before .obliquity .ensures))
+    ∙ ap (λ a. innerAngle (angleAnswer a))
+    (rw (toZ-ofZ (c .before .before .fits .tt)) at (c .before .obliquity .ensures))
 
 pub inner-obliquity-spec : {M : Type 1} → statement M
 inner-obliquity-spec = tie.close (tie.spec obliquity-requires angle-out-requires returns)

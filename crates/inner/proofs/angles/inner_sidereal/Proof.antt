@@ -16,7 +16,8 @@ angle-out-requires c κs = search needs
 returns : tie.Need-returns
 returns c =
     c .angle-out .ensures
-    ∙ ap (λ a. innerAngle (angleAnswer a)) (rw (toZ-ofZ (c .before .before .fits .ut)) at (c .before .sidereal .ensures))
+    ∙ ap (λ a. innerAngle (angleAnswer a))
+    (rw (toZ-ofZ (c .before .before .fits .ut)) at (c .before .sidereal .ensures))
 
 pub inner-sidereal-spec : {M : Type 1} → statement M
 inner-sidereal-spec = tie.close (tie.spec sidereal-requires angle-out-requires returns)

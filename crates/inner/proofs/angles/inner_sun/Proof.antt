@@ -16,7 +16,8 @@ angle-out-requires c κs = search needs
 returns : tie.Need-returns
 returns c =
     c .angle-out .ensures
-    ∙ ap (λ a. innerAngle (angleAnswer a)) (rw (toZ-ofZ (c .before .before .fits .tt)) at (c .before .sun-longitude .ensures))
+    ∙ ap (λ a. innerAngle (angleAnswer a))
+    (rw (toZ-ofZ (c .before .before .fits .tt)) at (c .before .sun-longitude .ensures))
 
 pub inner-sun-spec : {M : Type 1} → statement M
 inner-sun-spec = tie.close (tie.spec sun-longitude-requires angle-out-requires returns)

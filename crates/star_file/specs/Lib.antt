@@ -1,0 +1,4 @@
+-- What the contracts of inner functions cite beside the rules.
+pub mod Plans
+pub mod Puts
+pub mod Records

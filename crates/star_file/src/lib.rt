@@ -1,0 +1,21 @@
+// The star list file, byte by byte: what reads and writes it with plain numbers and byte slices.
+
+use rules::Listed;
+ghost use mathlib.Core.Path.{_≡_};
+
+pub mod numbers;
+pub mod reading;
+pub mod writing;
+
+// What the checks of a list came to: its answer, and how many records are to be worked.
+pub struct Plan {
+    pub answer: Listed,
+    pub todo: usize,
+}
+
+// The answer of a plan.
+pub fn answer_of(plan: Plan) -> Listed
+    ensures { λ r. ⌜ r ≡ plan .answer ⌝ }
+{
+    plan.answer
+}

@@ -1,0 +1,158 @@
+// A list file read: its count, a star by its index, an entry.
+
+use crate::Plan;
+use crate::numbers::number_at;
+use crate::numbers::two_bytes_at;
+use rules::Entry;
+use rules::Listed;
+use rules::Place;
+use rules::Refusal;
+use rules::Star;
+use rules::Starred;
+use stars::star_refused;
+ghost use mathlib.Core.Path.{_≡_};
+ghost use lib.ListN.{length, drop};
+ghost use Prim.Native.Nat.{_+_, _*_, _≤_};
+ghost use Rattle.rules.specs.StarList.{starIn, starsIn, anyRefused, markRefused, listCount};
+ghost use Rattle.rules.specs.StarList.{listStar, freshEntry};
+ghost use Rattle.star_file.specs.Plans.{readPlan};
+
+// The length of a file's head and of a record, and the most records.
+const HEAD: usize = 7;
+
+const RECORD: usize = 24;
+
+const MOST: usize = 64;
+
+// The star of the record that starts at `at`.
+fn star_at(file: &[u8], at: usize) -> Star
+    requires { ⌜ at + 24 ≤ length (now file) ⌝ }
+    ensures { λ r. ⌜ r ≡ starIn (drop at (now (file .entry))) ⌝ }
+{
+    Star {
+        ra: number_at(file, at, 8),
+        declination: number_at(file, at + 8, 8),
+        ra_motion: number_at(file, at + 16, 4) as i32,
+        declination_motion: number_at(file, at + 20, 4) as i32,
+    }
+}
+
+// Refusal 9: under 7 bytes, another mark than `SLT`, or another version than 1.
+fn mark_refused(file: &[u8]) -> bool
+    ensures { λ r. ⌜ r ≡ markRefused (now (file .entry)) ⌝ }
+{
+    if file.len() < HEAD {
+        return true;
+    }
+    if file[0] != 83 {
+        return true;
+    }
+    if file[1] != 76 {
+        return true;
+    }
+    if file[2] != 84 {
+        return true;
+    }
+    two_bytes_at(file, 3) != 1
+}
+
+// Refusal 5: one of the first `count` records has a star that is refused.
+fn any_refused(file: &[u8], count: usize) -> bool
+    requires { ⌜ 7 + 24 * count ≤ length (now file) ⌝ }
+    ensures { λ r. ⌜ r ≡ anyRefused (starsIn count (drop 7 (now (file .entry)))) ⌝ }
+{
+    let mut i: usize = 0;
+    while i < count {
+        if star_refused(star_at(file, HEAD + RECORD * i)) {
+            return true;
+        }
+        i += 1;
+    }
+    false
+}
+
+// How many records a list file has.
+//
+// Given: file, any bytes.
+// Returned: the count, 0 to 64; or refusal 9, 10 or 5.
+// Rule: 01, "Lists" and "Refusal numbers".
+pub fn list_count(file: &[u8]) -> Listed
+    ensures { λ r. ⌜ r ≡ listCount (now (file .entry)) ⌝ }
+{
+    if mark_refused(file) {
+        return Listed::Refused(Refusal::Mark);
+    }
+    let count = two_bytes_at(file, 5);
+    if MOST < count {
+        return Listed::Refused(Refusal::Count);
+    }
+    if file.len() != HEAD + RECORD * count {
+        return Listed::Refused(Refusal::Count);
+    }
+    if any_refused(file, count) {
+        return Listed::Refused(Refusal::Star);
+    }
+    Listed::Count(count)
+}
+
+// A star of a list file.
+//
+// Given: file, any bytes; index, from 0.
+// Returned: the star; or refusal 9, 10 or 5; or 11 where the file has no such record.
+// Rule: 01, "Lists" and "Refusal numbers".
+pub fn list_star(file: &[u8], index: usize) -> Starred
+    ensures { λ r. ⌜ r ≡ listStar (now (file .entry)) index ⌝ }
+{
+    match list_count(file) {
+        Listed::Refused(r) => Starred::Refused(r),
+        Listed::Count(count) => {
+            if index < count {
+                Starred::Of(star_at(file, HEAD + RECORD * index))
+            } else {
+                Starred::Refused(Refusal::Room)
+            }
+        }
+    }
+}
+
+// The checks of reading into `room` entries: 9, 10, 5, then 11.
+pub fn read_plan(file: &[u8], room: usize) -> Plan
+    ensures { λ r. ⌜ r ≡ readPlan (now (file .entry)) room ⌝ }
+{
+    match list_count(file) {
+        Listed::Refused(r) => Plan {
+            answer: Listed::Refused(r),
+            todo: 0,
+        },
+        Listed::Count(count) => {
+            if room < count {
+                Plan {
+                    answer: Listed::Refused(Refusal::Room),
+                    todo: 0,
+                }
+            } else {
+                Plan {
+                    answer: Listed::Count(count),
+                    todo: count,
+                }
+            }
+        }
+    }
+}
+
+// Record i of the file as an entry.
+pub fn entry_at(file: &[u8], i: usize) -> Entry
+    requires { ⌜ 7 + 24 * i + 24 ≤ length (now file) ⌝ }
+    ensures { λ r. ⌜ r ≡ freshEntry (starIn (drop (7 + 24 * i) (now (file .entry)))) ⌝ }
+{
+    Entry {
+        star: star_at(file, HEAD + RECORD * i),
+        mark: 0,
+        place: Place {
+            ra: 0,
+            declination: 0,
+            azimuth: 0,
+            altitude: 0,
+        },
+    }
+}

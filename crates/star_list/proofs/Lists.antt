@@ -1,0 +1,23 @@
+-- What a walk over a row needs of lists: the element after ps, that element replaced, and one more that is done.
+use mathlib.Core.Path.{_≡_, sym, _∙_, ap}
+use mathlib.Core.List.{List, [], _∷_, _++_, append-assoc}
+use Prim.Native.Nat.{ℕ, suc, _+_, _<_}
+use native.Mathlib.Omega.{arith}
+use lib.ListN.{length, getD, set, drop, length-append, length-drop}
+use lib.Seq.{drop-cons, set-append-seam}
+
+pub snoc-length : {X : Type 0} (ps : List X) (y : X) → length ps + 1 ≡ length (ps ++ (y ∷ []))
+snoc-length ps y = simp length-append (omega arith)
+
+-- the first of what is left of xs is replaced
+pub set-next : {X : Type 0} (xs ps : List X) (y : X) → length ps < length xs
+    → set (ps ++ drop (length ps) xs) (length ps) y ≡ (ps ++ (y ∷ [])) ++ drop (length (ps ++ (y ∷ []))) xs
+set-next {X} xs ps y l =
+    let more : suc (length ps) ≡ length (ps ++ (y ∷ [])) = omega (arith, snoc-length ps y) in
+    ap (λ (r : List X). set (ps ++ r) (length ps) y) (drop-cons xs (length ps) y l)
+    ∙ set-append-seam ps (getD xs (length ps) y) (drop (suc (length ps)) xs) y
+    ∙ sym (append-assoc ps (y ∷ []) (drop (suc (length ps)) xs))
+    ∙ ap (λ (k : ℕ). (ps ++ (y ∷ [])) ++ drop k xs) more
+
+pub row-within : {X : Type 0} (xs ps : List X) → length ps < length xs → length ps < length (ps ++ drop (length ps) xs)
+row-within xs ps l = simp (length-append, length-drop) (omega arith)
