@@ -3,9 +3,7 @@
 use std::path::PathBuf;
 use std::{env, fs};
 
-const SUBJECTS: [&str; 7] = [
-    "whole", "circle", "turning", "reading", "dates", "earth", "place",
-];
+const SUBJECTS: [&str; 8] = ["whole", "circle", "turning", "reading", "dates", "earth", "place", "star_list"];
 
 fn main() {
     let bridge = env::var_os("CARGO_MANIFEST_DIR").expect("cargo runs this");

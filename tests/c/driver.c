@@ -11,9 +11,9 @@
 
 struct call {
     const int64_t *given;
-    const uint8_t *read;
+    const void *read; /* both begin at a whole word, so that entries may stand there */
     size_t read_length;
-    uint8_t *room;
+    void *room;
     size_t room_length;
 };
 
@@ -50,7 +50,14 @@ static int32_t narrow(int64_t word) {
     FUNCTION(inner_sidereal, 1, struct inner_angle, given[0])                                                          \
     FUNCTION(turbelicus_place, 14, struct turbelicus_placed, narrow(given[0]), narrow(given[1]), narrow(given[2]),     \
              narrow(given[3]), narrow(given[4]), narrow(given[5]), narrow(given[6]), narrow(given[7]), given[8],       \
-             given[9], given[10], given[11], narrow(given[12]), narrow(given[13]))
+             given[9], given[10], given[11], narrow(given[12]), narrow(given[13]))                                     \
+    FUNCTION(inner_list_read, 0, struct inner_counted, call->read, call->read_length,                                  \
+             call->room, call->room_length / sizeof(struct inner_entry))                                               \
+    FUNCTION(inner_list_write, 0, struct inner_counted, call->read,                                                    \
+             call->read_length / sizeof(struct inner_entry), call->room, call->room_length)                            \
+    FUNCTION(inner_night_list, 10, struct inner_counted, narrow(given[0]), narrow(given[1]), narrow(given[2]),         \
+             narrow(given[3]), narrow(given[4]), narrow(given[5]), narrow(given[6]), narrow(given[7]), given[8],       \
+             given[9], call->room, call->room_length / sizeof(struct inner_entry))
 
 /* A weak name is null where no archive has the function, so that the driver can be built before all of them stand. */
 #define CALLER(function, count, type, ...)                                                                             \
@@ -113,7 +120,7 @@ static int64_t answer(const struct batch *batch, const struct row *row) {
         if (at > MOST_WORDS || made > MOST_WORDS) fail("the batch is too large", batch->name);
 
         memcpy(room, lent, (size_t)whole_words(room_length) * sizeof *room);
-        struct call call = {words, (const uint8_t *)read, (size_t)read_length, (uint8_t *)room, (size_t)room_length};
+        struct call call = {words, read, (size_t)read_length, room, (size_t)room_length};
         row->call(&call, answered);
     }
     if (at * 8 != batch->bytes) fail("the calls do not fill the batch", batch->name);

@@ -1,4 +1,7 @@
 // Exports for the tests alone: inner functions that `module` does not show. It is not shipped.
 // A function whose rule asks something of its numbers tests that first, so that none relies on its caller.
 
+pub mod angles;
 pub mod numbers;
+pub mod pairs;
+pub mod turns;

@@ -6,6 +6,55 @@ pub mod Rounding
 pub mod Product
 pub mod Root
 pub mod Modulo
+pub mod Directions
+pub mod LengthNear
+pub mod Length
+-- sine and cosine: nearness, the series, the pair, the laws of angles
+pub mod Near
+pub mod Chain
+pub mod Series
+pub mod Circle
+pub mod Folding
+pub mod CircleSquares
+pub mod CircleLength
+pub mod CircleToHalf
+pub mod Angles
+pub mod Neighbours
+-- the reading: near the arc, ranges, its promises
+pub mod Arc
+pub mod Certificates
+pub mod ArcSeries
+pub mod HalfQuarterLess
+pub mod ReadingRange
+pub mod Heights
+pub mod ReadingParts
+pub mod Octant
+pub mod Reading
+-- turns, and the angles of an instant
+pub mod Turn3
+pub mod Return3
+pub mod Turning
+pub mod WayBack
+pub mod Aberration
+pub mod Instant
+pub mod Polynomials
+pub mod Nutation
+pub mod Sun
+pub mod Sidereal
+pub mod Night
+pub mod Place
+-- tests: computed at each number below a bound; of ranges
+pub mod Every
+pub mod Ranges
+-- dates: spans laid end to end, the calendar
+pub mod Rows
+pub mod Calendar
+pub mod DayNumbers
+pub mod Found
+pub mod Seconds
+pub mod Dates
+pub mod Instants
+pub mod Parts
 pub mod Bytes
 pub mod Records
 pub mod StarList

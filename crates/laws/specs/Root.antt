@@ -1,12 +1,12 @@
 -- The whole root, downward: what it is known by, and that no second number is it.
 use mathlib.Core.Path.{_≡_}
-use Prim.Native.Nat.{ℕ, zero, suc, _+_, _*_, _≤_, _<_, _^_}
+use Prim.Native.Nat.{ℕ, zero, suc, _+_, _*_, _/_, _≤_, _<_, _^_}
 use mathlib.Core.Bool.{Bool, true, false, not, cond}
 use lib.Dec.{T, leb, leb→le, nleb→lt}
-use native.Mathlib.Nat.{two-pow-succ, mul-le-mul, le-antisymm, lt-of-not-le}
+use native.Mathlib.Nat.{two-pow-succ, mul-le-mul, mul-le-mul-right, le-antisymm, lt-of-not-le, lt-div-mul-add, div-mul-le-self}
 use native.Mathlib.Decide.{decLe}
 use native.Mathlib.Omega.{arith}
-use Rattle.integers.specs.Square.{le-of-square-le}
+use Rattle.integers.specs.Square.{le-of-square-le, two-products-le}
 use Rattle.rules.specs.Length.{root, rootFrom}
 
 -- r is the root of n: its square is at most n, and the next square is above
@@ -71,3 +71,28 @@ root-ge n m h k = by (decLe m (root n))
 
 pub root-le : (n m : ℕ) → n < 2 ^ 64 → n ≤ m * m → root n ≤ m
 root-le n m h k = le-of-square-le (root n) m (omega (arith, root-root n h .below))
+
+-- ---- Newton's step
+
+-- the mean of x and n / x
+abbrev pub closer : ℕ → ℕ → ℕ
+closer n x = (x + n / x) / 2
+
+-- is never below the root (the mean of two numbers is no less than the root of their product)
+pub closer-above : (n x : ℕ) → 0 < x → n < (closer n x + 1) * (closer n x + 1)
+closer-above n x h =
+    let q = n / x in
+    let y = closer n x in
+    let below : n < q * x + x = lt-div-mul-add {a = n} {b = x} h in
+    let twice : x + (q + 1) ≤ 2 * (y + 1) = omega arith in
+    omega (arith, two-products-le x (q + 1), mul-le-mul twice twice)
+
+-- and where it is no nearer, x was the root
+pub closer-root : (n x : ℕ) → n < (x + 1) * (x + 1) → x ≤ closer n x → Root n x
+closer-root n x h k = record {
+  below = omega (arith, div-mul-le-self n x, mul-le-mul-right x (quotient k));
+  above = h;
+}
+  where
+    quotient : x ≤ closer n x → x ≤ n / x
+    quotient k = omega arith

@@ -1,2 +1,3 @@
 -- The reading room: each file restates in full what is promised, and proves it by citing the crates below.
 pub mod OnlyOne
+pub mod Demand3

@@ -8,6 +8,8 @@ ghost use Rattle.rules.specs.Units.{circle, between};
 ghost use Rattle.rules.specs.Rounding.{rnd, modulo};
 ghost use Rattle.rules.specs.Length.{root};
 ghost use Rattle.laws.specs.Product.{ProductFits};
+ghost use Rattle.laws.specs.Root.{closer};
+ghost use Rattle.whole.specs.Trial.{Trial};
 
 // C: the circle, in µas.
 const CIRCLE: i64 = 1296000000000;
@@ -19,6 +21,11 @@ const TWO_DIGITS: i64 = 1099511627776;
 
 // One more than the root of the largest i64.
 const ROOTS: i64 = 3037000500;
+
+// 2^30 + 32, which no length of a turned direction or of a pair reaches, and its square.
+const NEAR: i64 = 1073741856;
+
+const NEAR_SQUARE: i64 = 1152921573326324736;
 
 // Rnd(a / b): the nearest whole number, halves away from zero.
 //
@@ -59,24 +66,38 @@ pub fn rnd_product_quotient(a: i64, b: i64, d: i64) -> i64
 // Returned: the largest number whose square is at most n.
 // Rule: 01, "L is the whole root (downward)".
 //
-// The root lies from low on and below low + gap; trial * trial fits, as no trial reaches ROOTS.
+// Newton's steps from a number that is not below the root: each is nearer until one is the root.
 pub fn whole_root(n: i64) -> i64
     requires { ⌜ pos 0 ≤ℤ n ⌝ }
     ensures { λ r. ⌜ r ≡ pos (root (natAbs n)) ⌝ }
 {
-    let mut low: i64 = 0;
-    let mut gap: i64 = ROOTS;
-    while gap > 1 {
-        let half = gap / 2;
-        let trial = low + half;
-        if trial * trial <= n {
-            low = trial;
-            gap = gap - half;
-        } else {
-            gap = half;
-        }
+    if n < 1 {
+        return 0;
     }
-    low
+    let mut trial = first_trial(n);
+    let mut next = closer_to_root(n, trial);
+    while next < trial {
+        trial = next;
+        next = closer_to_root(n, trial);
+    }
+    trial
+}
+
+// A number not below the root of n. Lengths are near 2^30: from there one step is enough.
+fn first_trial(n: i64) -> i64
+    requires { ⌜ pos 0 ≤ℤ n ⌝ }
+    ensures { λ r. ⌜ Trial n r ⌝ }
+{
+    if n < NEAR_SQUARE { NEAR } else { ROOTS }
+}
+
+// The mean of a trial and n / trial.
+fn closer_to_root(n: i64, trial: i64) -> i64
+    requires { ⌜ pos 0 ≤ℤ n ⌝ }
+    requires { ⌜ Trial n trial ⌝ }
+    ensures { λ r. ⌜ r ≡ pos (closer (natAbs n) (natAbs trial)) ⌝ }
+{
+    (trial + n / trial) / 2
 }
 
 // a modulo d, never negative.

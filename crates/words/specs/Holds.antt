@@ -2,20 +2,20 @@
 -- A need of a signed operation is answered by the operation's `-ok` from what its operands hold, and the operation
 -- itself says what its result holds: `add-ok h k tt`, `add h k tt`. The bounds compute, so that `tt` shows the fit.
 --   a parameter or a field: `arg`; one known to be a natural: `nat`; an i32 made an i64: `widened`
---   a call's result, by its `ensures`: `got`; a literal: `lit`; a better bound: `bounded`
+--   a call's result, by its `ensures`: `got`; a literal: `lit`; a better bound: `bounded`; the opposite: `negate`
 --   where the operands' bounds do not show the fit: `add-to`, `sub-to`, `mul-to` with a bound of the result's own
 use mathlib.Core.Path.{_≡_, refl, _∙_}
 use Prim.Native.Nat.{ℕ, zero, suc, _+_, _*_, _-_, _/_, _≤_, _<_, _^_}
 use native.Mathlib.Nat.{le-trans, le-div-iff-mul-le, div-mul-le-self}
 use native.Mathlib.Omega.{arith}
 use lib.Dec.{T, ltb, ltb→lt}
-use lib.IntN.{ℤ, pos, negsuc, negℤ, natAbs, _+ℤ_, _-ℤ_, _*ℤ_}
+use lib.IntN.{ℤ, pos, negsuc, negℤ, natAbs, _+ℤ_, _-ℤ_, _*ℤ_, +ℤ-idl}
 use lib.Signed.{quotZ, remZ, _<ℤ_}
 use mir.Syntax.{w32, w64}
 use mir.Val.{SFits, ofZ, toZ}
 use mir.Facts.{toZ-ofZ, toZ-pos}
 use Rattle.integers.specs.Difference.{pos-sub}
-use Rattle.integers.specs.Size.{abs-add, abs-sub, abs-mul-le}
+use Rattle.integers.specs.Size.{abs-neg, abs-add, abs-sub, abs-mul-le}
 use Rattle.integers.specs.Quotient.{quot-le, rem-lt, size-pos, abs-quot}
 use Rattle.words.specs.Fits.{fits64, size32, widened-fits, quot-fits}
 
@@ -122,6 +122,16 @@ module _ {m n : ℕ} {x y : ℤ} {a b : ℕ} (h : Holds m x a) (k : Holds n y b)
 
   pub mul : T (ltb (a * b) (2 ^ 63)) → Holds (m *ʷ n) (x *ℤ y) (a * b)
   mul t = mul-to (a * b) (abs-mul-le x y a b (h .size) (k .size)) t
+
+-- the opposite
+pub negate-ok : {n : ℕ} {z : ℤ} {b : ℕ} → Holds n z b → T (ltb b (2 ^ 63)) → SFits w64 (pos 0 -ℤ toZ w64 n)
+negate-ok {b = b} h t = sub-to-ok (lit 0 tt) h b (rw (+ℤ-idl (negℤ _), abs-neg _) (h .size)) t
+
+pub negate : {n : ℕ} {z : ℤ} {b : ℕ} → Holds n z b → T (ltb b (2 ^ 63)) → Holds (0 -ʷ n) (negℤ z) b
+negate {z = z} h t = record {
+  value = toZ-ofZ (negate-ok h t) ∙ rw (h .value) (+ℤ-idl (negℤ z));
+  size = rw (abs-neg z) (h .size);
+}
 
 -- a difference of naturals that is none below nought
 module _ {m n a b p q : ℕ} (h : Holds m (pos a) p) (k : Holds n (pos b) q) (l : b ≤ a) where

@@ -54,16 +54,12 @@ pub fn compare_lent<const GIVEN: usize, const ANSWERED: usize>(
             answered += u64::from(is_answer(function, answer));
         }
     }
-    assert!(
-        compared > 0,
-        "{}, {what}: nothing to compare",
-        function.name
-    );
-    // written past the test harness, which keeps what a passing test prints
-    let line = format!(
-        "compared {}, {what}: {compared}, answered {answered}",
-        function.name
-    );
+    assert!(compared > 0, "{}, {what}: nothing to compare", function.name);
+    print(&format!("compared {}, {what}: {compared}, answered {answered}", function.name));
+}
+
+/// Prints a line past the test harness, which keeps back what a passing test prints.
+pub fn print(line: &str) {
     writeln!(std::io::stdout(), "{line}").expect("standard output");
 }
 

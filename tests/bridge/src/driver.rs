@@ -31,9 +31,7 @@ pub fn answers<const GIVEN: usize, const ANSWERED: usize>(
     };
     let at_once = MOST_BYTES / calls.iter().map(bytes).max().unwrap_or(1);
     let batches = calls.chunks_mut(at_once.max(1));
-    batches
-        .flat_map(|batch| batch_answers(name, batch))
-        .collect()
+    batches.flat_map(|batch| batch_answers(name, batch)).collect()
 }
 
 fn batch_answers<const GIVEN: usize, const ANSWERED: usize>(
@@ -70,11 +68,7 @@ fn start() -> Child {
     let bridge = env::var_os("CARGO_MANIFEST_DIR").expect("cargo runs the tests");
     let tests = PathBuf::from(bridge).join("..");
     let program = tests.join("../target/c/driver");
-    assert!(
-        program.exists(),
-        "{} is not built: .ci/run builds it",
-        program.display()
-    );
+    assert!(program.exists(), "{} is not built: .ci/run builds it", program.display());
     Command::new(tests.join("host.sh"))
         .arg("run")
         .arg(program)

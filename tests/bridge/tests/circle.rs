@@ -19,16 +19,12 @@ fn octant_edges() {
     let octant = HALF_QUARTER as i64;
     let most = i64::MAX / octant;
     // two circles either way, and the last of the 64-bit angles
-    let octants = [-16..=16, -most..=16 - most, most - 16..=most]
-        .into_iter()
-        .flatten();
+    let octants = [-16..=16, -most..=16 - most, most - 16..=most].into_iter().flatten();
     let edges: Vec<i64> = octants.map(|number| number * octant).collect();
     let calls = around(&edges, 1000).into_iter().map(|angle| [angle]);
     compare(&PAIR, "octant edges", calls, pair);
 
-    let ends = around(&[i64::MIN, i64::MAX], 1000)
-        .into_iter()
-        .map(|angle| [angle]);
+    let ends = around(&[i64::MIN, i64::MAX], 1000).into_iter().map(|angle| [angle]);
     compare(&PAIR, "ends", ends, pair);
 }
 
@@ -47,9 +43,7 @@ fn any_angle() {
 #[test]
 fn opposite_angles() {
     let mut chance = Chance::new("opposite_angles");
-    let mut angles: Vec<_> = (0..100_000)
-        .map(|_| [chance.within(-i64::MAX, i64::MAX)].into())
-        .collect();
+    let mut angles: Vec<_> = (0..100_000).map(|_| [chance.within(-i64::MAX, i64::MAX)].into()).collect();
     let pairs = PAIR.answers(&mut angles);
     for angle in &mut angles {
         angle.given[0] = -angle.given[0];

@@ -26,14 +26,8 @@ fn date_of([day]: [i64; 1]) -> [i64; 4] {
 
 fn instants(given: [i64; 8]) -> [i64; 3] {
     let [year, month, day, hour, minute, second, ms, difference] = given.map(Whole::from);
-    let instants = dates::instants(Moment {
-        date: Date { year, month, day },
-        hour,
-        minute,
-        second,
-        ms,
-        difference,
-    });
+    let instants =
+        dates::instants(Moment { date: Date { year, month, day }, hour, minute, second, ms, difference });
     words(instants.map(|(_, Ut(ut), Tt(tt))| vec![ut, tt]))
 }
 
@@ -46,16 +40,7 @@ fn times_line(call: &mut Call<0>) -> [i64; 1] {
 
 /// The parts of a date and time: each is in range, or now and then next to it, or anything.
 fn moment(chance: &mut Chance) -> [i64; 8] {
-    let ranges = [
-        (1972, 2099),
-        (1, 12),
-        (1, 31),
-        (0, 23),
-        (0, 59),
-        (0, 60),
-        (0, 999),
-        (-900, 900),
-    ];
+    let ranges = [(1972, 2099), (1, 12), (1, 31), (0, 23), (0, 59), (0, 60), (0, 999), (-900, 900)];
     ranges.map(|(low, high)| {
         if chance.once_in(100) {
             chance.of_any_size(LEAST, MOST)
@@ -93,20 +78,13 @@ fn both_sides_of_every_step() {
     for step in dates::steps() {
         let after = dates::day_of(step).expect("a step is in the span");
         let before = dates::date_of(after - 1).expect("a step has a day before");
-        let seconds = [
-            (before, 23, 59, 58),
-            (before, 23, 59, 59),
-            (before, 23, 59, 60),
-            (step, 0, 0, 0),
-        ];
+        let seconds = [(before, 23, 59, 58), (before, 23, 59, 59), (before, 23, 59, 60), (step, 0, 0, 0)];
         for (date, hour, minute, second) in seconds {
             for ms in -1..=1000 {
                 for difference in [-900, 0, 900] {
                     let Date { year, month, day } = date;
-                    calls.push(
-                        [year, month, day, hour, minute, second, ms, difference]
-                            .map(|part| part as i64),
-                    );
+                    let call = [year, month, day, hour, minute, second, ms, difference];
+                    calls.push(call.map(|part| part as i64));
                 }
             }
         }
@@ -132,20 +110,13 @@ fn random_moments() {
     compare(&INSTANTS, "random", random, instants);
 }
 
-/// The difference decides last, whatever else is refused.
+/// Checks run in rising number: every choice of good and bad parts.
 #[test]
 fn order_of_refusals() {
     let good = [2000, 1, 1, 12, 0, 0, 0, 0];
     let bad = [1971, 13, 32, 24, 60, 61, 1000, 901];
-    // every choice of good and bad parts
     let calls = (0..1 << good.len()).map(|choice| {
-        std::array::from_fn(|part| {
-            if choice >> part & 1 == 0 {
-                good[part]
-            } else {
-                bad[part]
-            }
-        })
+        std::array::from_fn(|part| if choice >> part & 1 == 0 { good[part] } else { bad[part] })
     });
     compare(&INSTANTS, "every choice of bad parts", calls, instants);
 }
@@ -157,8 +128,7 @@ fn line(chance: &mut Chance) -> Vec<u8> {
     let (year, month, day) = (digits(year, 9999), digits(month, 99), digits(day, 99));
     let (hour, minute, second) = (digits(hour, 99), digits(minute, 99), digits(second, 99));
     let (ms, difference) = (digits(ms, 999), difference % 10_000);
-    let mut text =
-        format!("{year:04}-{month:02}-{day:02} {hour:02}:{minute:02}:{second:02}.{ms:03} ");
+    let mut text = format!("{year:04}-{month:02}-{day:02} {hour:02}:{minute:02}:{second:02}.{ms:03} ");
     if difference < 0 || chance.once_in(100) {
         text.push('-');
     }
@@ -167,16 +137,17 @@ fn line(chance: &mut Chance) -> Vec<u8> {
     text.into_bytes()
 }
 
-/// The same line with a byte changed, left out or put in, or cut short.
+/// A line of the form with a byte or two changed, put in or left out, or cut short.
 fn damaged(chance: &mut Chance) -> Vec<u8> {
     let mut line = line(chance);
     for _ in 0..chance.within(1, 2) {
         let at = chance.within(0, line.len() as i64 - 1) as usize;
         let byte = chance.one_of(b"0123456789-+:. \t\r/;\0\xff");
-        match chance.within(0, 3) {
+        match chance.within(0, 4) {
             0 => line[at] = byte,
             1 => line.insert(at, byte),
-            2 => line.truncate(at.max(1)),
+            2 if line.len() > 1 => _ = line.remove(at),
+            3 => line.truncate(at.max(1)),
             _ => line.push(byte),
         }
     }
@@ -186,11 +157,7 @@ fn damaged(chance: &mut Chance) -> Vec<u8> {
 #[test]
 fn lines_of_times() {
     const ROOM: usize = 64;
-    let call = |read: Vec<u8>| Call {
-        given: [],
-        read,
-        room: vec![b'~'; ROOM],
-    };
+    let call = |read: Vec<u8>| Call { given: [], read, room: vec![b'~'; ROOM] };
     let mut chance = Chance::new("lines_of_times");
     let valid = (0..RANDOM).map(|_| call(line(&mut chance)));
     compare_lent(&TIMES_LINE, "lines of the form", valid, times_line);

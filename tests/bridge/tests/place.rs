@@ -35,37 +35,14 @@ const RANGES: [(i64, i64); 14] = {
 const GOOD: [i64; 14] = [2000, 1, 1, 12, 0, 0, 0, 0, 0, 0, 0, 0, 0, 0];
 
 fn place(given: [i64; 14]) -> [i64; 5] {
-    let [year, month, day, hour, minute, second, ms, difference, rest @ ..] =
-        given.map(Whole::from);
-    let moment = Moment {
-        date: Date { year, month, day },
-        hour,
-        minute,
-        second,
-        ms,
-        difference,
-    };
+    let [year, month, day, hour, minute, second, ms, difference, rest @ ..] = given.map(Whole::from);
+    let moment = Moment { date: Date { year, month, day }, hour, minute, second, ms, difference };
     let [latitude, longitude, right_ascension, declination, motion_right_ascension, motion_declination] =
         rest;
-    let site = Site {
-        latitude,
-        longitude,
-    };
-    let star = Star {
-        right_ascension,
-        declination,
-        motion_right_ascension,
-        motion_declination,
-    };
+    let site = Site { latitude, longitude };
+    let star = Star { right_ascension, declination, motion_right_ascension, motion_declination };
     let placed = place::place(moment, site, star);
-    words(placed.map(|place| {
-        vec![
-            place.right_ascension,
-            place.declination,
-            place.azimuth,
-            place.altitude,
-        ]
-    }))
+    words(placed.map(|place| vec![place.right_ascension, place.declination, place.azimuth, place.altitude]))
 }
 
 #[test]
@@ -79,20 +56,15 @@ fn random_places() {
 /// poles, zenith and the meridian among them.
 #[test]
 fn ends_of_ranges() {
-    let moments = [
-        [1972, 1, 1, 0, 0, 0, 0, -900],
-        [2000, 1, 1, 12, 0, 0, 0, 0],
-        [2099, 12, 31, 23, 59, 59, 999, 900],
-    ];
+    let moments =
+        [[1972, 1, 1, 0, 0, 0, 0, -900], [2000, 1, 1, 12, 0, 0, 0, 0], [2099, 12, 31, 23, 59, 59, 999, 900]];
     let mut calls: Vec<Vec<i64>> = moments.iter().map(|moment| moment.to_vec()).collect();
     for (low, high) in &RANGES[8..] {
         let values = [*low, (low + high) / 2, *high];
         let longer = |call: &Vec<i64>| values.map(|value| [&call[..], &[value]].concat());
         calls = calls.iter().flat_map(longer).collect();
     }
-    let calls = calls
-        .into_iter()
-        .map(|call| call.try_into().expect("every part is given"));
+    let calls = calls.into_iter().map(|call| call.try_into().expect("every part is given"));
     compare(&PLACE, "ends of ranges", calls, place);
 }
 
@@ -131,20 +103,9 @@ fn order_of_refusals() {
 fn one_day() {
     let mut chance = Chance::new("one_day");
     let ranges = RANGES[8..].iter();
-    let star_and_site: Vec<i64> = ranges
-        .map(|(low, high)| chance.within(*low, *high))
-        .collect();
+    let star_and_site: Vec<i64> = ranges.map(|(low, high)| chance.within(*low, *high)).collect();
     let day = (0..24 * 60 * 60).step_by(10).map(|time| {
-        let moment = [
-            2024,
-            2,
-            29,
-            time / 3600,
-            time / 60 % 60,
-            time % 60,
-            500,
-            -17,
-        ];
+        let moment = [2024, 2, 29, time / 3600, time / 60 % 60, time % 60, 500, -17];
         let call = [&moment[..], &star_and_site].concat();
         call.try_into().expect("every part is given")
     });

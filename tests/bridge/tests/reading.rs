@@ -1,10 +1,8 @@
 //! Reading an angle: `reading` beside `reading.rs`, and the two promises of document 01 measured.
 #![cfg(exported = "reading")]
 
-use std::io::Write;
-
 use bridge::chance::{around, Chance};
-use bridge::compare::compare;
+use bridge::compare::{compare, print};
 use bridge::face::READING;
 use second::circle::pair;
 use second::reading;
@@ -30,10 +28,7 @@ fn any_pair(chance: &mut Chance) -> [i64; 2] {
     if chance.once_in(2) {
         [chance.within(LEAST, MOST), chance.within(LEAST, MOST)]
     } else {
-        [
-            chance.of_any_size(LEAST, MOST),
-            chance.of_any_size(LEAST, MOST),
-        ]
+        [chance.of_any_size(LEAST, MOST), chance.of_any_size(LEAST, MOST)]
     }
 }
 
@@ -68,29 +63,22 @@ fn any_two_numbers() {
 fn promises() {
     let mut chance = Chance::new("promises");
     let given = (0..RANDOM).map(|_| any_pair(&mut chance));
-    let mut calls: Vec<_> = given
-        .filter(|given| *given != [0, 0])
-        .map(Into::into)
-        .collect();
+    let mut calls: Vec<_> = given.filter(|given| *given != [0, 0]).map(Into::into).collect();
     let (mut worst, mut worst_given) = (0.0, [0, 0]);
     for (index, [angle]) in READING.answers(&mut calls).into_iter().enumerate() {
         let [h, v] = calls[index].given.map(i128::from);
         let pair = pair(angle.into());
         let aside = (pair.cosine * v - pair.sine * h).abs();
         let sizes = h.abs() + v.abs();
-        assert!(
-            aside <= 8 * sizes,
-            "({h}, {v}) reads {angle}: {aside} aside"
-        );
+        assert!(aside <= 8 * sizes, "({h}, {v}) reads {angle}: {aside} aside");
         let ahead = pair.cosine * h + pair.sine * v;
         assert!(ahead > 0, "({h}, {v}) reads {angle}: {ahead} ahead");
         if aside as f64 / sizes as f64 > worst {
             (worst, worst_given) = (aside as f64 / sizes as f64, [h, v]);
         }
     }
-    let line = format!(
+    print(&format!(
         "measured turbelicus_reading: {} pairs, worst ratio {worst:.3} of 8 at {worst_given:?}",
         calls.len()
-    );
-    writeln!(std::io::stdout(), "{line}").expect("standard output");
+    ));
 }

@@ -1,10 +1,8 @@
 //! Turns: `turning` beside `turning.rs`, and the way back measured.
 #![cfg(exported = "turning")]
 
-use std::io::Write;
-
 use bridge::chance::{around, Chance};
-use bridge::compare::{compare, words};
+use bridge::compare::{compare, print, words};
 use bridge::face::TURN;
 use second::rounding::{rnd, root};
 use second::turning::{self, Direction};
@@ -26,17 +24,8 @@ fn direction(chance: &mut Chance) -> [i64; 3] {
     // the length in parts of 2^30, so that a short one scales as well as a long one
     let length = root(squares([x, y, z]) << 60).max(1);
     // a stretch of a few parts crosses both ends of acceptance
-    let stretch = if chance.once_in(4) {
-        chance.within(-3, 3)
-    } else {
-        0
-    };
-    let stretched = |part: i64| {
-        rnd(
-            (Whole::from(part) * (UNIT + Whole::from(stretch))) << 30,
-            length,
-        )
-    };
+    let stretch = if chance.once_in(4) { chance.within(-3, 3) } else { 0 };
+    let stretched = |part: i64| rnd((Whole::from(part) * (UNIT + Whole::from(stretch))) << 30, length);
     [x, y, z].map(|part| stretched(part) as i64)
 }
 
@@ -60,32 +49,22 @@ fn random_turns() {
     let mut chance = Chance::new("random_turns");
     let random = (0..RANDOM).map(|_| {
         let [x, y, z] = direction(&mut chance);
-        [
-            x,
-            y,
-            z,
-            chance.within(1, 3),
-            chance.within(-MOST_ANGLE, MOST_ANGLE),
-        ]
+        [x, y, z, chance.within(1, 3), chance.within(-MOST_ANGLE, MOST_ANGLE)]
     });
     compare(&TURN, "random", random, turn);
 }
 
 #[test]
 fn axes_and_angles() {
-    let mut axes = around(&[i64::MIN, i64::MAX], 1);
-    axes.extend(-2..=6);
+    let axes = [around(&[i64::MIN, i64::MAX], 1), (-2..=6).collect()].concat();
     let angles = around(&[i64::MIN, -MOST_ANGLE, 0, MOST_ANGLE, i64::MAX], 3);
     let mut chance = Chance::new("axes_and_angles");
-    let directions: Vec<_> = (0..10).map(|_| direction(&mut chance)).collect();
-    let calls = directions.iter().flat_map(|[x, y, z]| {
-        let angles = &angles;
-        let of_axis = move |axis: &i64| {
-            let axis = *axis;
-            angles.iter().map(move |angle| [*x, *y, *z, axis, *angle])
-        };
-        axes.iter().flat_map(of_axis)
-    });
+    let mut calls = Vec::new();
+    for [x, y, z] in [(); 10].map(|()| direction(&mut chance)) {
+        for axis in &axes {
+            calls.extend(angles.iter().map(|angle| [x, y, z, *axis, *angle]));
+        }
+    }
     compare(&TURN, "axes and angles", calls, turn);
 }
 
@@ -93,109 +72,95 @@ fn axes_and_angles() {
 fn ends_of_acceptance() {
     let middle: Whole = 1 << 60;
     let ends = [middle - (1 << 32), middle + (1 << 32)];
-    // neither 2^60 − 2^32 nor one less is a sum of three squares: two less is the first past that end
     let lengths = ends.into_iter().flat_map(|end| end - 8..=end + 8);
     let mut directions: Vec<[i64; 3]> = lengths.filter_map(of_squared_length).collect();
+    // neither 2^60 − 2^32 nor one less is a sum of three squares: two less is the first past that end
     for end in [ends[0] - 2, ends[0] + 1, ends[1], ends[1] + 1] {
-        assert!(
-            directions.iter().any(|parts| squares(*parts) == end),
-            "none at {end}"
-        );
+        assert!(directions.iter().any(|parts| squares(*parts) == end), "none at {end}");
     }
     // all parts multiples of 2^16
     directions.push([1 << 30, 1 << 16, 0]);
-    let arranged = directions.iter().flat_map(|[x, y, z]| {
-        let orders = [[*x, *y, *z], [*y, *z, *x], [*z, *x, *y]];
-        orders
-            .into_iter()
-            .flat_map(|[x, y, z]| [[x, y, z], [-x, -y, z], [x, -y, -z]])
-    });
+
     let mut chance = Chance::new("ends_of_acceptance");
-    let calls: Vec<[i64; 5]> = arranged
-        .flat_map(|[x, y, z]| (1..=3).map(move |axis| [x, y, z, axis, 0]))
-        .map(|[x, y, z, axis, _]| [x, y, z, axis, chance.within(-MOST_ANGLE, MOST_ANGLE)])
-        .collect();
+    let mut calls = Vec::new();
+    for [x, y, z] in directions {
+        for [x, y, z] in [[x, y, z], [-y, z, x], [z, -x, y], [-x, -y, -z]] {
+            for axis in 1..=3 {
+                calls.push([x, y, z, axis, chance.within(-MOST_ANGLE, MOST_ANGLE)]);
+            }
+        }
+    }
     compare(&TURN, "ends of acceptance", calls, turn);
 }
 
 /// Parts whose squares, or the sum of whose squares, pass 64 bits.
 #[test]
 fn parts_too_large() {
-    let sizes = [
-        0,
-        1,
-        1 << 30,
-        1 << 31,
-        3_037_000_500,
-        1 << 32,
-        1 << 62,
-        i64::MAX,
-    ];
-    let parts = around(
-        &[&sizes[..], &sizes.map(|size| -size), &[i64::MIN]].concat(),
-        1,
-    );
-    let calls = parts.iter().flat_map(|x| {
-        let parts = &parts;
-        let of_y = move |y: &i64| {
-            let y = *y;
-            parts.iter().map(move |z| [*x, y, *z, 3, 1])
-        };
-        parts.iter().flat_map(of_y)
-    });
+    let sizes = [0, 1, 1 << 30, 1 << 31, 3_037_000_500, 1 << 32, 1 << 62, i64::MAX];
+    let parts = around(&[sizes, sizes.map(|size| -size)].concat(), 1);
+    let mut calls = Vec::new();
+    for x in &parts {
+        for y in &parts {
+            calls.extend(parts.iter().map(|z| [*x, *y, *z, 3, 1]));
+        }
+    }
     compare(&TURN, "parts of any size", calls, turn);
 }
 
 /// n turns and the opposite turns in the other order come back within 32 n in each part.
 #[test]
 fn way_back() {
-    const CHAINS: usize = 50;
-    const MOST_TURNS: usize = 1000;
-    for turns in [1, 2, 3, 10, 100, MOST_TURNS] {
+    for turns in [1, 2, 3, 10, 100, 1000] {
         let mut chance = Chance::new(&format!("way_back {turns}"));
-        let accepted = |[x, y, z]: &[i64; 3]| turn([*x, *y, *z, 1, 0])[0] == 0;
-        let starts: Vec<[i64; 3]> = std::iter::repeat_with(|| direction(&mut chance))
-            .filter(accepted)
-            .take(CHAINS)
-            .collect();
-        let there: Vec<Vec<[i64; 2]>> = (0..turns)
-            .map(|_| {
-                let one = |_| [chance.within(1, 3), chance.within(-MOST_ANGLE, MOST_ANGLE)];
-                (0..CHAINS).map(one).collect()
-            })
-            .collect();
-        let opposite =
-            |step: &Vec<[i64; 2]>| step.iter().map(|[axis, angle]| [*axis, -angle]).collect();
-        let back = there.iter().rev().map(opposite);
+        let starts: Vec<[i64; 3]> = (0..CHAINS).map(|_| accepted_direction(&mut chance)).collect();
+        let there: Vec<Step> = (0..turns).map(|_| step(&mut chance)).collect();
+        let back = there.iter().rev().map(|step| step.map(|[axis, angle]| [axis, -angle]));
 
         let mut directions = starts.clone();
-        for step in there.iter().cloned().chain(back) {
-            directions = turned(&directions, &step);
+        for step in there.iter().copied().chain(back) {
+            directions = turned(&directions, step);
         }
         let mut worst = 0;
         for (start, end) in starts.iter().zip(&directions) {
             for (from, to) in start.iter().zip(end) {
                 worst = worst.max((from - to).abs());
-                assert!(
-                    worst <= 32 * turns as i64,
-                    "{turns} turns and back: {start:?} came to {end:?}"
-                );
+                assert!(worst <= 32 * turns, "{turns} turns and back: {start:?} came to {end:?}");
             }
         }
-        let line = format!("measured turbelicus_turn: {CHAINS} chains of {turns} turns and back, at most {worst} parts off");
-        writeln!(std::io::stdout(), "{line}").expect("standard output");
+        print(&format!(
+            "measured turbelicus_turn: {CHAINS} chains of {turns} turns and back, at most {worst} parts off"
+        ));
+    }
+}
+
+/// So many chains go at once.
+const CHAINS: usize = 50;
+
+/// A turn for each of the chains: axis and angle.
+type Step = [[i64; 2]; CHAINS];
+
+fn step(chance: &mut Chance) -> Step {
+    [(); CHAINS].map(|()| [chance.within(1, 3), chance.within(-MOST_ANGLE, MOST_ANGLE)])
+}
+
+fn accepted_direction(chance: &mut Chance) -> [i64; 3] {
+    loop {
+        let parts = direction(chance);
+        let [x, y, z] = parts.map(Whole::from);
+        if (Direction { x, y, z }).accepted() {
+            return parts;
+        }
     }
 }
 
 /// Every direction by its turn, as the module has it; none may be refused.
-fn turned(directions: &[[i64; 3]], turns: &[[i64; 2]]) -> Vec<[i64; 3]> {
-    let together =
-        |([x, y, z], [axis, angle]): (&[i64; 3], &[i64; 2])| [*x, *y, *z, *axis, *angle].into();
-    let mut calls: Vec<_> = directions.iter().zip(turns).map(together).collect();
-    let answers = TURN.answers(&mut calls);
-    let parts = |(index, [refused, x, y, z]): (usize, [i64; 4])| {
-        assert_eq!(refused, 0, "{:?} in a chain", calls[index].given);
+fn turned(directions: &[[i64; 3]], step: Step) -> Vec<[i64; 3]> {
+    let call = |([x, y, z], [axis, angle]): (&[i64; 3], [i64; 2])| [*x, *y, *z, axis, angle].into();
+    let mut calls: Vec<_> = directions.iter().zip(step).map(call).collect();
+    let answers = TURN.answers(&mut calls).into_iter().zip(&calls);
+    let parts = answers.map(|([refused, x, y, z], call)| {
+        assert_eq!(refused, 0, "{:?} in a chain", call.given);
         [x, y, z]
-    };
-    answers.into_iter().enumerate().map(parts).collect()
+    });
+    parts.collect()
 }

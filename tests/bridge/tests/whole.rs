@@ -9,12 +9,12 @@ use second::units::{Whole, CIRCLE};
 
 const RANDOM: usize = 100_000;
 
-/// The largest sizes that the conditions allow.
+/// The largest sizes that `inner` states as conditions: document 01 needs no larger.
 const MOST_DIVISOR: i64 = 1 << 62;
 const MOST_FACTOR: i64 = 1 << 42;
 const MOST_OTHER_FACTOR: i64 = 1 << 60;
 const MOST_PRODUCT_DIVISOR: i64 = 1 << 42;
-const MOST_QUOTIENT: Whole = 1 << 61;
+const MOST_QUOTIENT: i64 = 1 << 61;
 
 /// Met and the value where the conditions hold, else two noughts.
 fn tried(condition: bool, value: impl FnOnce() -> Whole) -> [i64; 2] {
@@ -31,12 +31,16 @@ fn quotient([a, b]: [i64; 2]) -> [i64; 2] {
 }
 
 fn product_quotient([a, b, d]: [i64; 3]) -> [i64; 2] {
-    let product = Whole::from(a) * Whole::from(b);
     let condition = (1..=MOST_PRODUCT_DIVISOR).contains(&d)
         && (-MOST_FACTOR..=MOST_FACTOR).contains(&a)
         && (-MOST_OTHER_FACTOR..=MOST_OTHER_FACTOR).contains(&b)
-        && product.abs() <= Whole::from(d) * MOST_QUOTIENT;
-    tried(condition, || rnd(product, d.into()))
+        && b.abs() <= most_other_factor(a, d);
+    tried(condition, || rnd(Whole::from(a) * Whole::from(b), d.into()))
+}
+
+/// The answer must fit: b is at most 2^61 / (|a / d| + 1) in size.
+fn most_other_factor(a: i64, d: i64) -> i64 {
+    MOST_QUOTIENT / (a.abs() / d + 1)
 }
 
 fn whole_root([n]: [i64; 1]) -> [i64; 2] {
@@ -49,9 +53,7 @@ fn on_circle([a]: [i64; 1]) -> [i64; 2] {
 
 /// All tuples of two and of three out of several.
 fn pairs(several: &[i64]) -> impl Iterator<Item = [i64; 2]> + '_ {
-    several
-        .iter()
-        .flat_map(|a| several.iter().map(|b| [*a, *b]))
+    several.iter().flat_map(|a| several.iter().map(|b| [*a, *b]))
 }
 
 fn triples(several: &[i64]) -> impl Iterator<Item = [i64; 3]> + '_ {
@@ -60,10 +62,7 @@ fn triples(several: &[i64]) -> impl Iterator<Item = [i64; 3]> + '_ {
 
 #[test]
 fn rnd_quotient() {
-    let ends = around(
-        &[i64::MIN, -MOST_DIVISOR, -2, 0, 2, MOST_DIVISOR, i64::MAX],
-        2,
-    );
+    let ends = around(&[i64::MIN, -MOST_DIVISOR, -2, 0, 2, MOST_DIVISOR, i64::MAX], 2);
     compare(&RND_QUOTIENT, "ends", pairs(&ends), quotient);
 
     // a = q b + b / 2 and its neighbours, for an even b: exactly half, and just past it either way
@@ -87,21 +86,9 @@ fn rnd_quotient() {
 
 #[test]
 fn rnd_product_quotient() {
-    let numbers = [
-        MOST_FACTOR,
-        MOST_OTHER_FACTOR,
-        1 << 19,
-        1 << 20,
-        1 << 40,
-        i64::MAX,
-    ];
+    let numbers = [MOST_FACTOR, MOST_OTHER_FACTOR, 1 << 19, 1 << 20, 1 << 40, i64::MAX];
     let both_signs = [&[0][..], &numbers, &numbers.map(|number| -number)].concat();
-    compare(
-        &RND_PRODUCT_QUOTIENT,
-        "ends",
-        triples(&around(&both_signs, 1)),
-        product_quotient,
-    );
+    compare(&RND_PRODUCT_QUOTIENT, "ends", triples(&around(&both_signs, 1)), product_quotient);
 
     // a b is an odd number of halves of d, give or take one: b is 1 or -1 modulo the even d
     let mut chance = Chance::new("rnd_product_quotient, ties");
@@ -109,22 +96,17 @@ fn rnd_product_quotient() {
         let half = chance.of_any_size(1, MOST_PRODUCT_DIVISOR / 2);
         let most = MOST_OTHER_FACTOR / (2 * half);
         let b = 2 * half * chance.of_any_size(-most + 1, most - 1) + chance.one_of(&[-1, 1]);
-        [
-            chance.one_of(&[-1, 1]) * half + chance.within(-1, 1),
-            b,
-            2 * half,
-        ]
+        [chance.one_of(&[-1, 1]) * half + chance.within(-1, 1), b, 2 * half]
     });
     compare(&RND_PRODUCT_QUOTIENT, "ties", ties, product_quotient);
 
-    // on both sides of |a| |b| = d 2^61
+    // on both sides of the largest b
     let mut chance = Chance::new("rnd_product_quotient, largest");
     let largest = (0..RANDOM).map(|_| {
-        let d = chance.of_any_size(1, MOST_FACTOR / 2);
-        let a = chance.within(2 * d, MOST_FACTOR);
-        let b = Whole::from(d) * MOST_QUOTIENT / Whole::from(a);
-        let signed = chance.one_of(&[-1, 1]) * a;
-        [signed, b as i64 + chance.within(-1, 1), d]
+        let d = chance.of_any_size(1, MOST_PRODUCT_DIVISOR - 1);
+        let a = chance.one_of(&[-1, 1]) * chance.within(d, MOST_FACTOR);
+        let b = most_other_factor(a, d) + chance.within(-1, 1);
+        [a, chance.one_of(&[-1, 1]) * b, d]
     });
     compare(&RND_PRODUCT_QUOTIENT, "largest", largest, product_quotient);
 
@@ -160,18 +142,7 @@ fn roots() {
 fn circles() {
     let circle = CIRCLE as i64;
     let most = i64::MAX / circle;
-    let ends = around(
-        &[
-            i64::MIN,
-            -most * circle,
-            -circle,
-            0,
-            circle,
-            most * circle,
-            i64::MAX,
-        ],
-        2,
-    );
+    let ends = around(&[i64::MIN, -most * circle, -circle, 0, circle, most * circle, i64::MAX], 2);
     compare(&ON_CIRCLE, "ends", ends.iter().map(|a| [*a]), on_circle);
 
     let mut chance = Chance::new("circles, whole");

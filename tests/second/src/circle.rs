@@ -30,10 +30,7 @@ pub fn pair(angle: Whole) -> Pair {
 fn in_first_quarter(rest: Whole) -> Pair {
     if rest > HALF_QUARTER {
         let folded = in_first_octant(QUARTER - rest);
-        Pair {
-            cosine: folded.sine,
-            sine: folded.cosine,
-        }
+        Pair { cosine: folded.sine, sine: folded.cosine }
     } else {
         in_first_octant(rest)
     }
@@ -42,19 +39,13 @@ fn in_first_quarter(rest: Whole) -> Pair {
 /// At exactly half a quarter both are 759,250,125. Otherwise the two series, brought to length.
 fn in_first_octant(rest: Whole) -> Pair {
     if rest == HALF_QUARTER {
-        return Pair {
-            cosine: 759_250_125,
-            sine: 759_250_125,
-        };
+        return Pair { cosine: 759_250_125, sine: 759_250_125 };
     }
     let x = parts_of_radian(rest);
     let (cosine, sine) = (cosine_series(x), sine_series(x));
     // L is the whole root (downward) of the squares' sum, each part becomes Rnd(part × 2^30 / L).
     let length = root(cosine * cosine + sine * sine);
-    Pair {
-        cosine: rnd(cosine * UNIT, length),
-        sine: rnd(sine * UNIT, length),
-    }
+    Pair { cosine: rnd(cosine * UNIT, length), sine: rnd(sine * UNIT, length) }
 }
 
 /// x = Rnd(r × 3,373,259,426 / 648,000,000,000).
@@ -76,7 +67,5 @@ fn cosine_series(x: Whole) -> Whole {
 /// w = Rnd(x²/2^30), p = 2^30; for each k: p = 2^30 − Rnd(wp/(2^30 k)).
 fn series(x: Whole, divisors: &[Whole]) -> Whole {
     let w = rnd(x * x, UNIT);
-    divisors
-        .iter()
-        .fold(UNIT, |p, k| UNIT - rnd(w * p, UNIT * k))
+    divisors.iter().fold(UNIT, |p, k| UNIT - rnd(w * p, UNIT * k))
 }

@@ -36,6 +36,7 @@ const FIRST_DAY: Whole = -10227;
 const LAST_DAY: Whole = 36524;
 
 /// Days per month come from two rows, common and leap.
+#[rustfmt::skip]
 const DAYS: [[Whole; 12]; 2] = [
     [31, 28, 31, 30, 31, 30, 31, 31, 30, 31, 30, 31],
     [31, 29, 31, 30, 31, 30, 31, 31, 30, 31, 30, 31],
@@ -57,10 +58,7 @@ fn days_of_year(year: Whole) -> Whole {
 
 /// Refused 1 and 2: year not 1972 to 2099; no such month or day.
 fn check_date(date: Date) -> Result<(), Refusal> {
-    unless(
-        (FIRST_YEAR..=LAST_YEAR).contains(&date.year),
-        refusals::YEAR,
-    )?;
+    unless((FIRST_YEAR..=LAST_YEAR).contains(&date.year), refusals::YEAR)?;
     unless((1..=12).contains(&date.month), refusals::DAY)?;
     let days = months(date.year)[date.month as usize - 1];
     unless((1..=days).contains(&date.day), refusals::DAY)
@@ -92,31 +90,18 @@ pub fn date_of(day: Whole) -> Result<Date, Refusal> {
         rest -= days;
         month += 1;
     }
-    Ok(Date {
-        year,
-        month,
-        day: rest + 1,
-    })
+    Ok(Date { year, month, day: rest + 1 })
 }
 
 /// TAI−UTC is one second more from 1 July of each of these years,
-const JULY_STEPS: [Whole; 11] = [
-    1972, 1981, 1982, 1983, 1985, 1992, 1993, 1994, 1997, 2012, 2015,
-];
+const JULY_STEPS: [Whole; 11] = [1972, 1981, 1982, 1983, 1985, 1992, 1993, 1994, 1997, 2012, 2015];
 /// and from 1 January of each of these.
-const JANUARY_STEPS: [Whole; 16] = [
-    1973, 1974, 1975, 1976, 1977, 1978, 1979, 1980, 1988, 1990, 1991, 1996, 1999, 2006, 2009, 2017,
-];
+const JANUARY_STEPS: [Whole; 16] =
+    [1973, 1974, 1975, 1976, 1977, 1978, 1979, 1980, 1988, 1990, 1991, 1996, 1999, 2006, 2009, 2017];
 
 /// The dates from which TAI−UTC is one second more.
 pub fn steps() -> impl Iterator<Item = Date> {
-    let first_of = |month| {
-        move |year| Date {
-            year,
-            month,
-            day: 1,
-        }
-    };
+    let first_of = |month| move |year| Date { year, month, day: 1 };
     let july = JULY_STEPS.into_iter().map(first_of(7));
     july.chain(JANUARY_STEPS.into_iter().map(first_of(1)))
 }
@@ -193,11 +178,7 @@ pub fn moment_of_line(line: &[u8]) -> Option<Moment> {
         return None;
     }
     Some(Moment {
-        date: Date {
-            year: number(&head[0..4]),
-            month: number(&head[5..7]),
-            day: number(&head[8..10]),
-        },
+        date: Date { year: number(&head[0..4]), month: number(&head[5..7]), day: number(&head[8..10]) },
         hour: number(&head[11..13]),
         minute: number(&head[14..16]),
         second: number(&head[17..19]),
@@ -213,16 +194,10 @@ fn difference_of(text: &[u8]) -> Option<Whole> {
         return None;
     }
     let size = number(digits);
-    Some(if digits.len() < text.len() {
-        -size
-    } else {
-        size
-    })
+    Some(if digits.len() < text.len() { -size } else { size })
 }
 
 /// The number that digits write.
 fn number(digits: &[u8]) -> Whole {
-    digits
-        .iter()
-        .fold(0, |number, digit| number * 10 + Whole::from(digit - b'0'))
+    digits.iter().fold(0, |number, digit| number * 10 + Whole::from(digit - b'0'))
 }

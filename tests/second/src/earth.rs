@@ -117,18 +117,12 @@ pub fn nutation(tt: Tt) -> Result<Nutation, Refusal> {
     let Tt(t) = tt;
     let (mut longitude, mut obliquity) = (0, 0);
     for (multiples, in_longitude, in_obliquity) in TERMS {
-        let argument: Whole = multiples
-            .iter()
-            .zip([l, l1, f, d, om])
-            .map(|(multiple, argument)| multiple * argument)
-            .sum();
+        let argument: Whole =
+            multiples.iter().zip([l, l1, f, d, om]).map(|(multiple, argument)| multiple * argument).sum();
         // An amplitude with its changes is read as a polynomial.
         longitude += polynomial(&in_longitude, t) * pair(argument).sine;
         obliquity += polynomial(&in_obliquity, t) * pair(argument).cosine;
     }
     // The products are summed and Rnd by 2^30 once.
-    Ok(Nutation {
-        longitude: rnd(longitude, UNIT),
-        obliquity: rnd(obliquity, UNIT),
-    })
+    Ok(Nutation { longitude: rnd(longitude, UNIT), obliquity: rnd(obliquity, UNIT) })
 }

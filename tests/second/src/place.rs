@@ -48,10 +48,7 @@ pub fn check_star(star: Star) -> Result<(), Refusal> {
 
 /// Refused 6: latitude not within ±324,000,000,000 or longitude not within ±648,000,000,000.
 pub fn check_site(site: Site) -> Result<(), Refusal> {
-    unless(
-        site.latitude.abs() <= QUARTER && site.longitude.abs() <= HALF_CIRCLE,
-        refusals::SITE,
-    )
+    unless(site.latitude.abs() <= QUARTER && site.longitude.abs() <= HALF_CIRCLE, refusals::SITE)
 }
 
 /// From a UTC date, a site and a star: the place, or refused 1 to 6.
@@ -81,14 +78,8 @@ pub fn apparent(star: Star, tt: Tt) -> Result<Direction, Refusal> {
     let aberrated = aberrated(precessed, tt)?;
     // 5. Axis 1 by −ε, axis 3 by Δψ, axis 1 by ε + Δε.
     let epsilon = obliquity(tt)?;
-    let Nutation {
-        longitude,
-        obliquity,
-    } = nutation(tt)?;
-    turns(
-        aberrated,
-        &[(1, -epsilon), (3, longitude), (1, epsilon + obliquity)],
-    )
+    let Nutation { longitude, obliquity } = nutation(tt)?;
+    turns(aberrated, &[(1, -epsilon), (3, longitude), (1, epsilon + obliquity)])
 }
 
 /// Steps 1 and 2: the direction of the star at the instant, by the equator and equinox of J2000.
@@ -97,15 +88,8 @@ fn moved(star: Star, Tt(t): Tt) -> Result<Direction, Refusal> {
     let right_ascension = star.right_ascension + rnd(star.motion_right_ascension * t, YEAR);
     let declination = star.declination + rnd(star.motion_declination * t, YEAR);
     // 2. From (2^30, 0, 0): axis 2 by −declination, axis 3 by RA (angles are first reduced by the remainder of C).
-    let start = Direction {
-        x: UNIT,
-        y: 0,
-        z: 0,
-    };
-    turns(
-        start,
-        &[(2, -declination % CIRCLE), (3, right_ascension % CIRCLE)],
-    )
+    let start = Direction { x: UNIT, y: 0, z: 0 };
+    turns(start, &[(2, -declination % CIRCLE), (3, right_ascension % CIRCLE)])
 }
 
 /// 4. Aberration, circular orbit, with S the Sun's longitude.
@@ -132,20 +116,11 @@ pub fn local_sidereal(ut: Ut, tt: Tt, longitude: Whole) -> Result<Whole, Refusal
 }
 
 /// 6. Axis 3 by the negative of the local sidereal angle, axis 2 by latitude − quarter. x is south, y east, z up.
-pub fn horizontal(
-    apparent: Direction,
-    local_sidereal: Whole,
-    latitude: Whole,
-) -> Result<Direction, Refusal> {
-    turns(
-        apparent,
-        &[(3, -local_sidereal % CIRCLE), (2, latitude - QUARTER)],
-    )
+pub fn horizontal(apparent: Direction, local_sidereal: Whole, latitude: Whole) -> Result<Direction, Refusal> {
+    turns(apparent, &[(3, -local_sidereal % CIRCLE), (2, latitude - QUARTER)])
 }
 
 /// Turns one after the other, each an axis and an angle.
 fn turns(start: Direction, turns: &[(Whole, Whole)]) -> Result<Direction, Refusal> {
-    turns.iter().try_fold(start, |direction, (axis, angle)| {
-        turn(direction, *axis, *angle)
-    })
+    turns.iter().try_fold(start, |direction, (axis, angle)| turn(direction, *axis, *angle))
 }

@@ -14,11 +14,7 @@ pub fn reading(h: Whole, v: Whole) -> Whole {
     }
     let in_octant = octant_angle(h.abs().min(v.abs()), h.abs().max(v.abs()));
     // If |v| > |h| take quarter minus that.
-    let in_quarter = if v.abs() > h.abs() {
-        QUARTER - in_octant
-    } else {
-        in_octant
-    };
+    let in_quarter = if v.abs() > h.abs() { QUARTER - in_octant } else { in_octant };
     // Place it by the signs, a zero counting as plus.
     let placed = match (h >= 0, v >= 0) {
         (true, true) => in_quarter,

@@ -21,12 +21,7 @@ pub const HEAD: usize = 7;
 /// RA and declination (64, signed), two motions (32, signed).
 pub const RECORD: usize = 24;
 
-pub const FOUR_NOUGHTS: Place = Place {
-    right_ascension: 0,
-    declination: 0,
-    azimuth: 0,
-    altitude: 0,
-};
+pub const FOUR_NOUGHTS: Place = Place { right_ascension: 0, declination: 0, azimuth: 0, altitude: 0 };
 
 /// A file is 7 + 24 × count bytes.
 pub fn file_length(count: usize) -> usize {
@@ -35,15 +30,9 @@ pub fn file_length(count: usize) -> usize {
 
 /// Reads a file into the room's first entries and answers their count, or refuses 9, 10, 5, 11 and writes nothing.
 pub fn read(file: &[u8], room: &mut [Entry]) -> Result<usize, Refusal> {
-    unless(
-        file.len() >= HEAD && file.starts_with(&MARK_AND_VERSION),
-        refusals::MARK,
-    )?;
+    unless(file.len() >= HEAD && file.starts_with(&MARK_AND_VERSION), refusals::MARK)?;
     let count = usize::from(u16::from_le_bytes([file[5], file[6]]));
-    unless(
-        count <= MOST_ENTRIES && file.len() == file_length(count),
-        refusals::COUNT,
-    )?;
+    unless(count <= MOST_ENTRIES && file.len() == file_length(count), refusals::COUNT)?;
     let stars: Vec<Star> = file[HEAD..].chunks(RECORD).map(star_of).collect();
     for star in &stars {
         check_star(*star)?;
@@ -51,11 +40,7 @@ pub fn read(file: &[u8], room: &mut [Entry]) -> Result<usize, Refusal> {
     unless(count <= room.len(), refusals::ROOM)?;
     // Entries read get mark 0 and four noughts; entries past the count stay.
     for (entry, star) in room.iter_mut().zip(stars) {
-        *entry = Entry {
-            star,
-            mark: 0,
-            place: FOUR_NOUGHTS,
-        };
+        *entry = Entry { star, mark: 0, place: FOUR_NOUGHTS };
     }
     Ok(count)
 }
@@ -66,10 +51,7 @@ pub fn write(entries: &[Entry], room: &mut [u8]) -> Result<usize, Refusal> {
         check_star(entry.star)?;
     }
     let length = file_length(entries.len());
-    unless(
-        entries.len() <= MOST_ENTRIES && length <= room.len(),
-        refusals::ROOM,
-    )?;
+    unless(entries.len() <= MOST_ENTRIES && length <= room.len(), refusals::ROOM)?;
     let mut file = MARK_AND_VERSION.to_vec();
     file.extend((entries.len() as u16).to_le_bytes());
     for entry in entries {

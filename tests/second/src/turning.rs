@@ -67,8 +67,5 @@ pub fn turn(direction: Direction, axis: Whole, angle: Whole) -> Result<Direction
 /// A turn about axis 3 makes x′ = Rnd((cx − sy)/2^30), y′ = Rnd((sx + cy)/2^30).
 fn turned_in_plane(x: Whole, y: Whole, angle: Whole) -> (Whole, Whole) {
     let p = pair(angle);
-    (
-        rnd(p.cosine * x - p.sine * y, UNIT),
-        rnd(p.sine * x + p.cosine * y, UNIT),
-    )
+    (rnd(p.cosine * x - p.sine * y, UNIT), rnd(p.sine * x + p.cosine * y, UNIT))
 }

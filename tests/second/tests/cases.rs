@@ -16,23 +16,14 @@ fn date(year: Whole, month: Whole, day: Whole) -> Date {
 }
 
 /// A star that is accepted.
-const STAR_OF_CASES: Star = Star {
-    right_ascension: 0,
-    declination: QUARTER,
-    motion_right_ascension: 0,
-    motion_declination: 0,
-};
+const STAR_OF_CASES: Star =
+    Star { right_ascension: 0, declination: QUARTER, motion_right_ascension: 0, motion_declination: 0 };
 
 /// An entry whose mark and angles are not noughts, so that a write to it shows.
 const ENTRY: Entry = Entry {
     star: STAR_OF_CASES,
     mark: 9,
-    place: Place {
-        right_ascension: 9,
-        declination: 9,
-        azimuth: 9,
-        altitude: 9,
-    },
+    place: Place { right_ascension: 9, declination: 9, azimuth: 9, altitude: 9 },
 };
 
 #[test]
@@ -68,11 +59,7 @@ fn pair_at_nought_and_at_half_a_quarter() {
 
 #[test]
 fn polynomials_after_a_century() {
-    let angles = Precession {
-        zeta: 2_306_537_978,
-        z: 2_307_330_983,
-        theta: 2_003_842_417,
-    };
+    let angles = Precession { zeta: 2_306_537_978, z: 2_307_330_983, theta: 2_003_842_417 };
     assert_eq!(precession(Tt(CENTURY)), Ok(angles));
     assert_eq!(obliquity(Tt(CENTURY)), Ok(84_334_634_223));
 }
@@ -100,10 +87,7 @@ fn run_only_refusals() {
     assert_eq!(day_of(date(2100, 1, 1)), Err(YEAR));
     assert_eq!(day_of(date(2001, 2, 29)), Err(DAY));
     let declination = 324_000_000_001;
-    let star = Star {
-        declination,
-        ..STAR_OF_CASES
-    };
+    let star = Star { declination, ..STAR_OF_CASES };
     assert_eq!(check_star(STAR_OF_CASES), Ok(()));
     assert_eq!(check_star(star), Err(STAR));
     let (x, y, z) = (UNIT, 0, 0);
@@ -120,18 +104,8 @@ fn run_only_refusals_of_lists() {
     let mut bytes = vec![7; file_length(65)];
     assert_eq!(write(&entries, &mut bytes), Err(ROOM));
     assert_eq!(bytes, vec![7; file_length(65)]);
-    let noon = Moment {
-        date: date(2000, 1, 1),
-        hour: 12,
-        minute: 0,
-        second: 0,
-        ms: 0,
-        difference: 0,
-    };
-    let site = Site {
-        latitude: 0,
-        longitude: 0,
-    };
+    let noon = Moment { date: date(2000, 1, 1), hour: 12, minute: 0, second: 0, ms: 0, difference: 0 };
+    let site = Site { latitude: 0, longitude: 0 };
     assert_eq!(night_list(noon, site, &mut entries), Err(ROOM));
     assert_eq!(entries, [ENTRY; 65]);
     assert_eq!(night_list(noon, site, &mut entries[..64]), Ok(64));
@@ -145,11 +119,7 @@ fn list_file_there_and_back() {
 
     let mut room = [ENTRY; 3];
     assert_eq!(read(&bytes, &mut room), Ok(2));
-    let read_entry = Entry {
-        mark: 0,
-        place: FOUR_NOUGHTS,
-        ..ENTRY
-    };
+    let read_entry = Entry { mark: 0, place: FOUR_NOUGHTS, ..ENTRY };
     assert_eq!(room, [read_entry, read_entry, ENTRY]);
 
     let mut again = vec![0; bytes.len()];
@@ -195,14 +165,8 @@ fn times_takes_only_the_exact_form() {
 
 #[test]
 fn tai_minus_utc_reaches_37_seconds() {
-    let last = Moment {
-        date: date(2099, 12, 31),
-        hour: 23,
-        minute: 59,
-        second: 59,
-        ms: 999,
-        difference: 900,
-    };
+    let last =
+        Moment { date: date(2099, 12, 31), hour: 23, minute: 59, second: 59, ms: 999, difference: 900 };
     let (day, Ut(ut), Tt(tt)) = instants(last).expect("the last moment of the span");
     assert_eq!(day, 36524);
     assert_eq!(tt - (ut - 900), 32_184 + 37_000);

@@ -36,10 +36,7 @@ fn from_degrees(degrees: f64, minutes: f64, seconds: f64) -> f64 {
 #[track_caller]
 fn assert_near(ours: Whole, published: f64, tolerance: f64) {
     let distance = (ours as f64 - published).abs();
-    assert!(
-        distance <= tolerance,
-        "{ours} is {distance} from {published}"
-    );
+    assert!(distance <= tolerance, "{ours} is {distance} from {published}");
 }
 
 /// ERFA's own test values (t_erfa_c.c: gmst82, obl80, nut80), which follow the standards that document 01 names.
@@ -77,11 +74,7 @@ fn meeus_sidereal_time_and_nutation() {
     let published = from_degrees(23.0, 26.0, 27.407);
     assert_near(obliquity(tt).unwrap(), published, 0.001 * ARCSECOND);
     let published = from_hours(13.0, 10.0, 46.1351);
-    assert_near(
-        local_sidereal(midnight, tt, 0).unwrap(),
-        published,
-        0.1 * ARCSECOND,
-    );
+    assert_near(local_sidereal(midnight, tt, 0).unwrap(), published, 0.1 * ARCSECOND);
 }
 
 /// Meeus, example 23.a: the apparent place of theta Persei on 2028 November 13.19 TD.
@@ -96,11 +89,7 @@ fn meeus_apparent_place() {
     };
     let direction = apparent(star, Tt(of_mjd(62088.19))).unwrap();
     let published = from_hours(2.0, 46.0, 14.390);
-    assert_near(
-        reading(direction.x, direction.y),
-        published,
-        0.5 * ARCSECOND,
-    );
+    assert_near(reading(direction.x, direction.y), published, 0.5 * ARCSECOND);
     let published = from_degrees(49.0, 21.0, 7.45);
     assert_near(height(direction), published, 0.5 * ARCSECOND);
 }

@@ -1,47 +1,33 @@
--- `whole::whole_root` meets its contract. The root lies from `low` on and below `low + gap`, and `gap` falls. No number
--- here is negative, so that each local holds its number, and all is said over ℕ.
-use Prim.Native.Nat.{ℕ, _+_, _*_, _/_, _-_, _<_, _≤_, _^_}
-use mathlib.Core.Path.{_≡_, sym, ap}
-use native.Mathlib.Nat.{mul-le-mul}
+-- `whole::whole_root` meets its contract. The invariant: the trial is not below the root, and `next` is the step after
+-- it; the measure is the trial. No number is negative, so that each local holds its number, and all is said over ℕ.
+use Prim.Native.Nat.{ℕ, zero, suc, _+_, _*_, _/_, _<_, _≤_, _^_}
+use mathlib.Core.Path.{_≡_, refl, sym, ap, _∙_, subst}
+use native.Mathlib.Nat.{div-lt-iff-lt-mul}
 use native.Mathlib.Omega.{arith}
-use borrow.Author.Tests.{leb-true, leb-false, ltb-true, ltb-false}
-use lib.IntN.{ℤ, pos, natAbs, _-ℤ_}
-use lib.Signed.{pos-natAbs, yes-nonNeg}
+use borrow.Author.Tests.{ltb-true, ltb-false}
+use lib.IntN.{pos, natAbs}
+use lib.Signed.{_≤ℤ_, pos-natAbs, yes-nonNeg}
 use mir.Syntax.{w64}
 use mir.Val.{ofZ, toZ}
-use mir.Facts.{toZ-pos}
-use Rattle.integers.specs.Difference.{pos-sub}
-use Rattle.words.specs.Fits.{size64-lt}
-use Rattle.laws.specs.Root.{is-root}
+use mir.Facts.{toZ-ofZ, toZ-pos}
+use Rattle.words.specs.Fits.{size64-lt, held64}
+use Rattle.laws.specs.Root.{closer, closer-above, closer-root, is-root}
+use Rattle.whole.specs.Trial.{Trial}
 use Rattle.whole.proofs.whole_root.Statement.{statement}
 use Rattle.whole.proofs.whole_root.Tie as tie
 
 abbrev Inv-loop : tie.InvT-loop
-Inv-loop n low₀ gap₀ low gap =
-    (0 < gap) × (low + gap ≤ 3037000500) × (low * low ≤ n) × (n < (low + gap) * (low + gap))
+Inv-loop n trial₀ next₀ trial next =
+    (0 < n) × (0 < trial) × (trial ≤ 3037000500) × (n < (trial + 1) * (trial + 1)) × (next ≡ closer n trial)
 
 abbrev μ-loop : tie.MeasureT-loop
-μ-loop n low₀ gap₀ low gap = gap
+μ-loop n trial₀ next₀ trial next = trial
 
 abbrev Start : Type 0
 Start = tie.Start Inv-loop μ-loop
 
-abbrev AtLoop : Type 0
-AtLoop = tie.At-loop Inv-loop μ-loop
-
-abbrev InLoop : Type 0
-InLoop = tie.In-loop Inv-loop μ-loop
-
 abbrev number : Start → ℕ
 number c = natAbs (c .args .n)
-
-abbrev half : AtLoop → ℕ
-half c = c .loop .gap / 2
-
-abbrev trial : AtLoop → ℕ
-trial c = c .loop .low + half c
-
--- ---- what the words hold
 
 number-lt : (c : Start) → number c < 2 ^ 63
 number-lt c = size64-lt (c .args .n) (c .fits .n) (c .pre)
@@ -52,87 +38,128 @@ number-bits c = ap (ofZ w64) (sym (pos-natAbs (c .args .n) (yes-nonNeg (c .pre))
 number-held : (c : Start) → toZ w64 (number c) ≡ pos (number c)
 number-held c = toZ-pos w64 (number-lt c)
 
-gap-held : (c : AtLoop) → toZ w64 (c .loop .gap) ≡ pos (c .loop .gap)
-gap-held c = toZ-pos w64 (omega arith)
+ruleset numbers = (number-bits, number-held)
 
-low-held : (c : AtLoop) → toZ w64 (c .loop .low) ≡ pos (c .loop .low)
-low-held c = toZ-pos w64 (omega arith)
+-- ---- before the loop
 
-half-held : (c : AtLoop) → toZ w64 (half c) ≡ pos (half c)
-half-held c = toZ-pos w64 (omega arith)
-
-trial-held : (c : AtLoop) → toZ w64 (trial c) ≡ pos (trial c)
-trial-held c = toZ-pos w64 (omega arith)
-
-gap-rest : (c : AtLoop) → pos (c .loop .gap) -ℤ pos (half c) ≡ pos (c .loop .gap - half c)
-gap-rest c = pos-sub (c .loop .gap) (half c) (omega arith)
-
-end-kept : (c : AtLoop) → trial c + (c .loop .gap - half c) ≡ c .loop .low + c .loop .gap
-end-kept c = omega arith
-
-ruleset locals = (number-bits, number-held, gap-held, low-held, half-held, trial-held, gap-rest, end-kept)
-
--- within the loop more than one number is left, so that no trial reaches the end
-more : (c : InLoop) → 1 < c .before .loop .gap
-more c = ltb-true 1 (c .before .loop .gap) (simp locals at (c .loop-test .taken))
-
-square-lt : (c : InLoop) → trial (c .before) * trial (c .before) < 2 ^ 63
-square-lt c =
-    let t : trial (c .before) ≤ 3037000499 = omega (arith, more c) in
-    omega (arith, mul-le-mul t t)
-
-square-held : (c : InLoop) → toZ w64 (trial (c .before) * trial (c .before)) ≡ pos (trial (c .before) * trial (c .before))
-square-held c = toZ-pos w64 (square-lt c)
-
--- ---- the needs
-
-loop-holds : tie.Need-loop-holds Inv-loop μ-loop
-loop-holds c = simp locals (omega (arith, number-lt c))
-
-div-half : tie.Need-div-half Inv-loop μ-loop
-div-half c = simp locals (omega arith)
-
-add-trial : tie.Need-add-trial Inv-loop μ-loop
-add-trial c = simp locals (omega arith)
-
-mul-if1 : tie.Need-mul-if1 Inv-loop μ-loop
-mul-if1 c = simp locals (omega (arith, square-lt c))
-
-sub-gap : tie.Need-sub-gap Inv-loop μ-loop
-sub-gap c = simp locals (omega arith)
-
-loop-less : tie.Need-loop-less Inv-loop μ-loop
-loop-less c = simp locals (omega (arith, more (c .before)))
-
-loop-again : tie.Need-loop-again Inv-loop μ-loop
-loop-again c =
-    let at = c .before .before in
-    let t = leb-true (trial at * trial at) (number (at .before))
-    (simp (locals, square-held (c .before)) at (c .if1 .taken)) in
-    let i = simp locals at (at .loop .inv) in
-    simp locals (omega (arith, more (c .before)))
-
-loop-less-2 : tie.Need-loop-less-2 Inv-loop μ-loop
-loop-less-2 c = simp locals (omega (arith, more (c .before)))
-
-loop-again-2 : tie.Need-loop-again-2 Inv-loop μ-loop
-loop-again-2 c =
-    let at = c .before .before in
-    let t = leb-false (trial at * trial at) (number (at .before))
-    (simp (locals, square-held (c .before)) at (c .if1 .left)) in
-    let i = simp locals at (at .loop .inv) in
-    simp locals (omega (arith, more (c .before)))
+nonneg : (c : Start) → pos 0 ≤ℤ toZ w64 (ofZ w64 (c .args .n))
+nonneg c = rw (toZ-ofZ (c .fits .n)) (c .pre)
 
 returns : tie.Need-returns Inv-loop μ-loop
 returns c =
+    let t = ltb-true (number (c .before)) 1 (simp numbers at (c .if1 .taken)) in
+    ap pos (is-root (number (c .before)) 0 (omega arith) (record { below = omega arith; above = omega arith }))
+
+some-number : (c : tie.Else1 Inv-loop μ-loop) → 0 < number (c .before)
+some-number c = omega (arith, ltb-false (number (c .before)) 1 (simp numbers at (c .if1 .left)))
+
+first-trial-requires : tie.Need-first-trial-requires Inv-loop μ-loop
+first-trial-requires c κs = nonneg (c .before)
+
+first : (c : tie.After-first-trial Inv-loop μ-loop) → Trial (c .before .before .args .n) (c .first-trial .result)
+first c = rw (toZ-ofZ (c .before .before .fits .n)) at (c .first-trial .ensures)
+
+first-bits : (c : tie.After-first-trial Inv-loop μ-loop)
+    → ofZ w64 (c .first-trial .result) ≡ natAbs (c .first-trial .result)
+first-bits c = ap (ofZ w64) (first c .is)
+
+closer-to-root-requires : tie.Need-closer-to-root-requires Inv-loop μ-loop
+closer-to-root-requires c κs = (
+  nonneg (c .before .before),
+  rw (toZ-ofZ (c .before .before .fits .n), held64 (c .first-trial .result) (c .first-trial .ok)) (first c),
+)
+
+second-bits : (c : tie.After-closer-to-root Inv-loop μ-loop)
+    → ofZ w64 (c .closer-to-root .result)
+    ≡ closer (number (c .before .before .before)) (natAbs (c .before .first-trial .result))
+second-bits c = ap (ofZ w64)
+    (rw (toZ-ofZ (c .before .before .before .fits .n), held64 (c .before .first-trial .result) (c .before .first-trial .ok))
+    at (c .closer-to-root .ensures))
+
+loop-holds : tie.Need-loop-holds Inv-loop μ-loop
+loop-holds c =
+    let t = first (c .before) in
+    simp (numbers, first-bits (c .before), second-bits c)
+    (some-number (c .before .before), t .some, t .le, t .above, refl)
+
+-- ---- in the loop
+
+abbrev AtLoop : Type 0
+AtLoop = tie.At-loop Inv-loop μ-loop
+
+abbrev start : AtLoop → Start
+start c = c .before .before .before .before
+
+trial-held : (c : AtLoop) → toZ w64 (c .loop .trial) ≡ pos (c .loop .trial)
+trial-held c = toZ-pos w64 (omega arith)
+
+next-is : (c : AtLoop) → c .loop .next ≡ closer (number (start c)) (c .loop .trial)
+next-is c = c .loop .inv .4 ∙ ap (λ n. closer n (c .loop .trial)) (number-bits (start c))
+
+next-le : (c : AtLoop) → c .loop .next ≤ 3037000502
+next-le c =
+    let i = simp numbers at (c .loop .inv) in
+    rw (next-is c) (at-most (number (start c)) (c .loop .trial) (i .1) (i .2) (i .3))
+  where
+    at-most : (n x : ℕ) → 0 < x → x ≤ 3037000500 → n < (x + 1) * (x + 1) → closer n x ≤ 3037000502
+    at-most n x h k l = omega (arith, div-lt-iff-lt-mul {k = x} {x = n} {y = x + 3} h .1 (omega arith))
+
+next-held : (c : AtLoop) → toZ w64 (c .loop .next) ≡ pos (c .loop .next)
+next-held c = toZ-pos w64 (omega (arith, next-le c))
+
+nearer : (c : tie.In-loop Inv-loop μ-loop) → c .before .loop .next < c .before .loop .trial
+nearer c = ltb-true (c .before .loop .next) (c .before .loop .trial)
+    (rw (next-held (c .before), trial-held (c .before)) at (c .loop-test .taken))
+
+-- the next trial is one too
+next-trial : (c : tie.In-loop Inv-loop μ-loop) → Trial (start (c .before) .args .n) (pos (c .before .loop .next))
+next-trial c =
+    let n = number (start (c .before)) in
+    let i = simp numbers at (c .before .loop .inv) in
+    let above : n < (c .before .loop .next + 1) * (c .before .loop .next + 1) =
+    subst (λ (x : ℕ). n < (x + 1) * (x + 1)) (sym (next-is (c .before)))
+    (closer-above n (c .before .loop .trial) (i .1)) in
+    record {
+      is = refl;
+      some = some n (c .before .loop .next) (i .0) above;
+      le = omega (arith, nearer c, i .2);
+      above = above;
+    }
+  where
+    some : (n x : ℕ) → 0 < n → n < (x + 1) * (x + 1) → 0 < x
+    some n zero h k = absurd (omega arith)
+    some n (suc x) h k = omega arith
+
+closer-to-root-requires-2 : tie.Need-closer-to-root-requires-2 Inv-loop μ-loop
+closer-to-root-requires-2 c κs =
+    (nonneg (start (c .before)), rw (toZ-ofZ (start (c .before) .fits .n), next-held (c .before)) (next-trial c))
+
+loop-less : tie.Need-loop-less Inv-loop μ-loop
+loop-less c = nearer (c .before)
+
+after-bits : (c : tie.After-closer-to-root2 Inv-loop μ-loop)
+    → ofZ w64 (c .closer-to-root2 .result)
+    ≡ closer (number (start (c .before .before))) (c .before .before .loop .next)
+after-bits c = ap (ofZ w64)
+    (rw (toZ-ofZ (start (c .before .before) .fits .n), next-held (c .before .before)) at (c .closer-to-root2 .ensures))
+
+loop-again : tie.Need-loop-again Inv-loop μ-loop
+loop-again c =
+    let t = next-trial (c .before) in
+    let i = simp numbers at (c .before .before .loop .inv) in
+    simp (numbers, after-bits c) (i .0, t .some, t .le, t .above, refl)
+
+-- ---- after it
+
+returns-2 : tie.Need-returns-2 Inv-loop μ-loop
+returns-2 c =
     let at = c .before in
-    let t = ltb-false 1 (at .loop .gap) (simp locals at (c .loop-test .left)) in
-    let i = simp locals at (at .loop .inv) in
-    let g : at .loop .gap ≡ 1 = omega arith in
-    let k = rw g at i in
-    let l : number (at .before) < 2 ^ 64 = omega (arith, number-lt (at .before)) in
-    simp locals
-    (ap pos (is-root (number (at .before)) (at .loop .low) l (record { below = omega arith; above = k .3 })))
+    let n = number (start at) in
+    let i = simp numbers at (at .loop .inv) in
+    let t = ltb-false (at .loop .next) (at .loop .trial) (rw (next-held at, trial-held at) at (c .loop-test .left)) in
+    trial-held at
+    ∙ ap pos (is-root n (at .loop .trial) (omega (arith, number-lt (start at)))
+    (closer-root n (at .loop .trial) (i .3) (rw (next-is at) at t)))
 
 pub whole-root-spec : {M : Type 1} → statement M
 whole-root-spec =
@@ -140,13 +167,11 @@ whole-root-spec =
     (tie.spec
     Inv-loop
     μ-loop
+    returns
+    first-trial-requires
+    closer-to-root-requires
     loop-holds
-    div-half
-    add-trial
-    mul-if1
-    sub-gap
+    closer-to-root-requires-2
     loop-less
     loop-again
-    loop-less-2
-    loop-again-2
-    returns)
+    returns-2)

@@ -1,0 +1,32 @@
+-- `circle::rows::square_parts` meets its contract.
+use Prim.Native.Nat.{_*_}
+use mathlib.Core.Path.{_∙_}
+use lib.Dec.{lit≤}
+use lib.IntN.{_*ℤ_}
+use lib.Signed.{ltZ-yes}
+use borrow.Author.Needs.{needs}
+use Rattle.rules.specs.Units.{unit}
+use Rattle.rules.specs.Circle as rule
+use Rattle.words.specs.Holds.{Holds, bits, _*ʷ_, arg, mul, mul-ok}
+use Rattle.circle.proofs.rows.square_parts.Statement.{statement}
+use Rattle.circle.proofs.rows.square_parts.Tie as tie
+
+x-holds : (c : tie.Start) → Holds (bits (c .args .x)) (c .args .x) unit
+x-holds c = arg (c .args .x) (c .pre) tt
+
+square-holds : (c : tie.Start)
+    → Holds (bits (c .args .x) *ʷ bits (c .args .x)) (c .args .x *ℤ c .args .x) (unit * unit)
+square-holds c = mul (x-holds c) (x-holds c) tt
+
+mul-rnd-quotient : tie.Need-mul-rnd-quotient
+mul-rnd-quotient c = mul-ok (x-holds c) (x-holds c) tt
+
+rnd-quotient-requires : tie.Need-rnd-quotient-requires
+rnd-quotient-requires c κs = (ltZ-yes tt, lit≤ tt)
+
+returns : tie.Need-returns
+unfolding rule.squareParts
+returns c = search needs ∙ rw (square-holds (c .before) .value) at (c .rnd-quotient .ensures)
+
+pub square-parts-spec : {M : Type 1} → statement M
+square-parts-spec = tie.close (tie.spec mul-rnd-quotient rnd-quotient-requires returns)

@@ -1,0 +1,3 @@
+-- What the proofs of `earth` share.
+pub mod Held
+pub mod Table

@@ -1,0 +1,3 @@
+-- What the clauses of `earth` cite.
+pub mod Terms
+pub mod Fits

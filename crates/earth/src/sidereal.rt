@@ -1,0 +1,40 @@
+// The sidereal angle, of UT.
+
+use crate::instant::refused_instant;
+use crate::polynomials::cubic;
+use rules::Angle;
+use rules::Refusal;
+use rules::Ut;
+ghost use mathlib.Core.Path.{_≡_};
+ghost use Rattle.rules.specs.Sidereal.{sidereal, siderealAt};
+ghost use Rattle.laws.specs.Instant.{InRange};
+
+// A day, in ms.
+const DAY: i64 = 86400000;
+
+// The sidereal angle.
+//
+// Given: t, UT, from -Q to Q.
+// Returned: µas, from 0 to C - 1.
+// Rule: 01, "Polynomials in time" (Aoki 1982). UT counts from noon: the constant has its 12 h in it.
+pub fn sidereal_of(t: Ut) -> i64
+    requires { ⌜ InRange (t .0) ⌝ }
+    ensures { λ r. ⌜ r ≡ sidereal t ⌝ }
+{
+    let mean = cubic(t.0, 1009658226150, 129602772192990, 1396560, -93);
+    whole::on_circle(mean + 15000 * whole::modulo_of(t.0, DAY))
+}
+
+// The sidereal angle, at any instant.
+//
+// Given: t, UT, any.
+// Returned: µas, from 0 to C - 1, or refusal 12.
+// Rule: 01, "Polynomials in time" (Aoki 1982).
+pub fn sidereal(t: Ut) -> Angle
+    ensures { λ r. ⌜ r ≡ siderealAt t ⌝ }
+{
+    if refused_instant(t.0) {
+        return Angle::Refused(Refusal::Instant);
+    }
+    Angle::Of(sidereal_of(t))
+}

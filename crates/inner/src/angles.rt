@@ -1,0 +1,174 @@
+// The angles of an instant, of the crate `earth`.
+
+use rules::Angle;
+use rules::Argued;
+use rules::Nutated;
+use rules::Precessed;
+use rules::Tt;
+use rules::Ut;
+ghost use mathlib.Core.Path.{_≡_};
+ghost use lib.IntN.{ℤ};
+ghost use Rattle.rules.specs.Refusals.{angleAnswer, precessedAnswer, arguedAnswer, nutatedAnswer};
+ghost use Rattle.rules.specs.Polynomials.{precessionAt, obliquityAt, argumentsAt};
+ghost use Rattle.rules.specs.Nutation.{nutationAt};
+ghost use Rattle.rules.specs.Sun.{sunLongitudeAt};
+ghost use Rattle.rules.specs.Sidereal.{siderealAt};
+ghost use Rattle.inner.specs.Angles.{inTt, inUt, innerAngle, innerPrecessed, innerArgued};
+ghost use Rattle.inner.specs.Angles.{innerNutated};
+
+// The refusal's number and noughts, or 0 and the angle.
+#[repr(C)]
+pub struct InnerAngle {
+    pub refused: i64,
+    pub angle: i64,
+}
+
+// The refusal's number and noughts, or 0 and the angles of precession.
+#[repr(C)]
+pub struct InnerPrecessed {
+    pub refused: i64,
+    pub zeta: i64,
+    pub z: i64,
+    pub theta: i64,
+}
+
+// The refusal's number and noughts, or 0 and l, l', F, D, Ω.
+#[repr(C)]
+pub struct InnerArgued {
+    pub refused: i64,
+    pub l: i64,
+    pub l1: i64,
+    pub f: i64,
+    pub d: i64,
+    pub om: i64,
+}
+
+// The refusal's number and noughts, or 0 and Δψ, Δε.
+#[repr(C)]
+pub struct InnerNutated {
+    pub refused: i64,
+    pub longitude: i64,
+    pub obliquity: i64,
+}
+
+// Precession at a TT instant.
+#[no_mangle]
+pub extern "C" fn inner_precession(tt: i64) -> InnerPrecessed
+    ensures { λ r. ⌜ r ≡ innerPrecessed (precessedAnswer (precessionAt (inTt tt))) ⌝ }
+{
+    precessed_out(earth::precession::precession(Tt(tt)))
+}
+
+// The mean obliquity at a TT instant.
+#[no_mangle]
+pub extern "C" fn inner_obliquity(tt: i64) -> InnerAngle
+    ensures { λ r. ⌜ r ≡ innerAngle (angleAnswer (obliquityAt (inTt tt))) ⌝ }
+{
+    angle_out(earth::precession::obliquity(Tt(tt)))
+}
+
+// The five arguments of nutation at a TT instant.
+#[no_mangle]
+pub extern "C" fn inner_arguments(tt: i64) -> InnerArgued
+    ensures { λ r. ⌜ r ≡ innerArgued (arguedAnswer (argumentsAt (inTt tt))) ⌝ }
+{
+    argued_out(earth::arguments::arguments(Tt(tt)))
+}
+
+// Nutation at a TT instant.
+#[no_mangle]
+pub extern "C" fn inner_nutation(tt: i64) -> InnerNutated
+    ensures { λ r. ⌜ r ≡ innerNutated (nutatedAnswer (nutationAt (inTt tt))) ⌝ }
+{
+    nutated_out(earth::nutation::nutation(Tt(tt)))
+}
+
+// The Sun's longitude at a TT instant.
+#[no_mangle]
+pub extern "C" fn inner_sun(tt: i64) -> InnerAngle
+    ensures { λ r. ⌜ r ≡ innerAngle (angleAnswer (sunLongitudeAt (inTt tt))) ⌝ }
+{
+    angle_out(earth::sun::sun_longitude(Tt(tt)))
+}
+
+// The sidereal angle at a UT instant.
+#[no_mangle]
+pub extern "C" fn inner_sidereal(ut: i64) -> InnerAngle
+    ensures { λ r. ⌜ r ≡ innerAngle (angleAnswer (siderealAt (inUt ut))) ⌝ }
+{
+    angle_out(earth::sidereal::sidereal(Ut(ut)))
+}
+
+fn angle_out(a: Angle) -> InnerAngle
+    ensures { λ r. ⌜ r ≡ innerAngle (angleAnswer a) ⌝ }
+{
+    match a {
+        Angle::Of(angle) => InnerAngle {
+            refused: 0,
+            angle: angle,
+        },
+        Angle::Refused(r) => InnerAngle {
+            refused: refusals::number(r),
+            angle: 0,
+        },
+    }
+}
+
+fn precessed_out(a: Precessed) -> InnerPrecessed
+    ensures { λ r. ⌜ r ≡ innerPrecessed (precessedAnswer a) ⌝ }
+{
+    match a {
+        Precessed::By(p) => InnerPrecessed {
+            refused: 0,
+            zeta: p.zeta,
+            z: p.z,
+            theta: p.theta,
+        },
+        Precessed::Refused(r) => InnerPrecessed {
+            refused: refusals::number(r),
+            zeta: 0,
+            z: 0,
+            theta: 0,
+        },
+    }
+}
+
+fn argued_out(a: Argued) -> InnerArgued
+    ensures { λ r. ⌜ r ≡ innerArgued (arguedAnswer a) ⌝ }
+{
+    match a {
+        Argued::By(p) => InnerArgued {
+            refused: 0,
+            l: p.moon,
+            l1: p.sun,
+            f: p.latitude,
+            d: p.elongation,
+            om: p.node,
+        },
+        Argued::Refused(r) => InnerArgued {
+            refused: refusals::number(r),
+            l: 0,
+            l1: 0,
+            f: 0,
+            d: 0,
+            om: 0,
+        },
+    }
+}
+
+fn nutated_out(a: Nutated) -> InnerNutated
+    ensures { λ r. ⌜ r ≡ innerNutated (nutatedAnswer a) ⌝ }
+{
+    match a {
+        Nutated::By(n) => InnerNutated {
+            refused: 0,
+            longitude: n.longitude,
+            obliquity: n.obliquity,
+        },
+        Nutated::Refused(r) => InnerNutated {
+            refused: refusals::number(r),
+            longitude: 0,
+            obliquity: 0,
+        },
+    }
+}

@@ -1,0 +1,92 @@
+-- Heights and declinations: within a quarter of nought, and read from two numbers of 32 bits (blueprint, T8).
+use mathlib.Core.Path.{_≡_, refl, sym, ap, _∙_}
+use mathlib.Core.Bool.{Bool, true, false, cond}
+use Prim.Native.Nat.{ℕ, zero, suc, _+_, _*_, _-_, _≤_, _<_}
+use native.Mathlib.Omega.{arith}
+use borrow.Author.Tests.{lt-ltb, le-ltb}
+use lib.IntN.{ℤ, pos, negsuc, natAbs, _-ℤ_, -ℤ-+ℤ-cancel}
+use lib.Signed.{ltZ}
+use Rattle.integers.specs.Difference.{pos-sub, sub-is}
+use Rattle.integers.specs.Size.{abs-le}
+use Rattle.rules.specs.Units.{unit, circle, half, quarter}
+use Rattle.rules.specs.declared.Direction.{Direction}
+use Rattle.rules.specs.Length.{root, square, squares}
+use Rattle.rules.specs.Turning.{Accepted}
+use Rattle.rules.specs.Circle.{pair}
+use Rattle.rules.specs.Reading.{angleToQuarter, notCircle, reading, asHeight, height}
+use Rattle.laws.specs.Root.{root-lt}
+use Rattle.laws.specs.Directions.{accepted-parts}
+use Rattle.laws.specs.Near.{UpTo}
+use Rattle.laws.specs.Angles.{pair-circle}
+use Rattle.laws.specs.ReadingRange.{reading-is, angleToQuarter-range, signs-plus-plus, signs-plus-minus}
+
+-- ---- within a quarter of nought
+
+first-quarter : (θ : ℤ) → UpTo θ quarter → natAbs (asHeight (notCircle θ)) ≤ quarter
+unfolding asHeight notCircle
+first-quarter (negsuc n) i = absurd (omega (arith, i .low))
+first-quarter (pos n) i =
+    rw (lt-ltb n circle (omega (arith, i .high)), le-ltb half n (omega (arith, i .high))) (i .high)
+
+last-quarter : (n : ℕ) → n ≤ quarter → natAbs (asHeight (notCircle (pos circle -ℤ pos n))) ≤ quarter
+unfolding asHeight notCircle
+last-quarter zero i = omega arith
+last-quarter (suc n) i =
+    let m = circle - suc n in
+    rw (pos-sub circle (suc n) (omega arith), lt-ltb m circle (omega arith), lt-ltb half m (omega arith))
+    (abs-le (pos m -ℤ pos circle) quarter
+    (omega (arith, sub-is (pos m) (pos circle))) (omega (arith, sub-is (pos m) (pos circle))))
+
+some-le : (d : ℕ) (z : ℤ) → 0 < d + natAbs z → natAbs (asHeight (reading (pos d) z)) ≤ quarter
+some-le d (pos v) k =
+    rw (reading-is (pos d) (pos v) k, signs-plus-plus d v (angleToQuarter d v))
+    (first-quarter (angleToQuarter d v) (angleToQuarter-range d v k))
+some-le d (negsuc v) k =
+    rw (reading-is (pos d) (negsuc v) k, signs-plus-minus d v (angleToQuarter d (suc v)))
+    (by (angleToQuarter d (suc v)) (angleToQuarter-range d (suc v) k))
+  where
+    by : (θ : ℤ) → UpTo θ quarter → natAbs (asHeight (notCircle (pos circle -ℤ θ))) ≤ quarter
+    by (negsuc n) i = absurd (omega (arith, i .low))
+    by (pos n) i = last-quarter n (i .high)
+
+pub asHeight-le : (d : ℕ) (z : ℤ) → natAbs (asHeight (reading (pos d) z)) ≤ quarter
+unfolding asHeight reading
+asHeight-le zero (pos zero) = omega arith
+asHeight-le zero (pos (suc v)) = some-le zero (pos (suc v)) (omega arith)
+asHeight-le zero (negsuc v) = some-le zero (negsuc v) (omega arith)
+asHeight-le (suc d) z = some-le (suc d) z (omega arith)
+
+pub height-le : (v : Direction) → natAbs (height v) ≤ quarter
+unfolding height
+height-le v = asHeight-le (root (square (v .x) + square (v .y))) (v .z)
+
+-- ---- the pair of a height is that of its reading
+
+pub asHeight-pair : (a : ℤ) → pair (asHeight a) ≡ pair a
+unfolding asHeight
+asHeight-pair a = by (ltZ (pos half) a)
+  where
+    by : (t : Bool) → pair (cond t (a -ℤ pos circle) a) ≡ pair a
+    by true = sym (pair-circle (a -ℤ pos circle)) ∙ ap pair (-ℤ-+ℤ-cancel a (pos circle))
+    by false = refl
+
+-- ---- an accepted direction gives two numbers of 32 bits
+
+pub record HeightGiven (v : Direction) : Type 0 where
+  pub x-le : natAbs (v .x) ≤ unit + 1
+  pub y-le : natAbs (v .y) ≤ unit + 1
+  pub z-le : natAbs (v .z) ≤ unit + 1
+  pub root-le : root (square (v .x) + square (v .y)) ≤ unit + 1
+
+pub height-fits : (v : Direction) → Accepted (squares v) → HeightGiven v
+unfolding squares
+height-fits v h =
+    let p = accepted-parts v h in
+    let n = square (v .x) + square (v .y) in
+    let k : n < (unit + 2) * (unit + 2) = omega (arith, h .high) in
+    record {
+      x-le = p .x;
+      y-le = p .y;
+      z-le = p .z;
+      root-le = omega (arith, root-lt n (unit + 2) (omega (arith, h .high)) k);
+    }

@@ -1,0 +1,133 @@
+-- What every night is known by: each pair is accepted, what is added is small, TT is within a century.
+use mathlib.Core.Path.{_≡_, refl, subst}
+use mathlib.Core.Bool.{Bool, true, false, not, _&&_}
+use Prim.Native.Nat.{ℕ, _*_, _≤_, _^_}
+use native.Mathlib.Nat.{mul-le-mul, le-trans}
+use native.Mathlib.Omega.{arith}
+use lib.Dec.{T, lit<, lit≤}
+use lib.IntN.{ℤ, pos, natAbs, _+ℤ_, _*ℤ_}
+use Rattle.integers.specs.Size.{abs-add, abs-mul, abs-neg}
+use Rattle.rules.specs.declared.Ut.{Ut}
+use Rattle.rules.specs.declared.Tt.{Tt}
+use Rattle.rules.specs.declared.Pair.{Pair}
+use Rattle.rules.specs.declared.Site.{Site}
+use Rattle.rules.specs.declared.Night.{Night}
+use Rattle.rules.specs.Units.{circle, half, quarter, day, unit, within}
+use Rattle.rules.specs.Rounding.{rnd, modulo}
+use Rattle.rules.specs.Length.{pairSquares}
+use Rattle.rules.specs.Circle.{pair}
+use Rattle.rules.specs.Turning.{Accepted}
+use Rattle.rules.specs.Polynomials.{obliquityRow, obliquity}
+use Rattle.rules.specs.Nutation.{nutation}
+use Rattle.rules.specs.Sun.{sunLongitude}
+use Rattle.rules.specs.Sidereal.{sidereal, siderealPolynomial}
+use Rattle.rules.specs.Night.{aberrationConstant, aberrationX, aberrationY, aberration, localSidereal, siteRefused, night}
+use Rattle.laws.specs.Units.{within-le}
+use Rattle.laws.specs.Rounding.{rnd-under}
+use Rattle.laws.specs.Modulo.{modulo-lt}
+use Rattle.laws.specs.Angles.{Sized, pair-sized, pair-length}
+use Rattle.laws.specs.Directions.{PartsLe}
+use Rattle.laws.specs.Aberration.{mostAdded}
+use Rattle.laws.specs.Instant.{InRange}
+use Rattle.laws.specs.Polynomials.{polynomial-le}
+use Rattle.laws.specs.Nutation.{ten-terms}
+
+-- ---- aberration
+
+-- a constant or a part of at most that, times a part of a pair, by 2^30
+pub scaled-le : (k c : ℤ) (m : ℕ) → natAbs k ≤ m → natAbs c ≤ unit → natAbs (rnd (k *ℤ c) unit) ≤ m
+scaled-le k c m hk hc = rnd-under (k *ℤ c) unit m (lit< tt) (rw (abs-mul k c) (omega (arith, mul-le-mul hk hc)))
+
+pub aberrationX-le : (s : Pair) → Sized s → natAbs (aberrationX s) ≤ aberrationConstant
+unfolding aberrationX
+aberrationX-le s h = scaled-le (pos aberrationConstant) (s .sine) aberrationConstant (omega arith) (h .sine-le)
+
+pub aberrationY-le : (s : Pair) → Sized s → natAbs (aberrationY s) ≤ aberrationConstant
+unfolding aberrationY
+aberrationY-le s h =
+    rw (abs-neg (rnd (pos aberrationConstant *ℤ s .cosine) unit))
+    (scaled-le (pos aberrationConstant) (s .cosine) aberrationConstant (omega arith) (h .cosine-le))
+
+pub aberration-le : (s e : Pair) → Sized s → Sized e → PartsLe mostAdded (aberration s e)
+unfolding aberration
+aberration-le s e hs he = record {
+  x = omega (arith, aberrationX-le s hs);
+  y = omega (arith, scaled-le (aberrationY s) (e .cosine) aberrationConstant (aberrationY-le s hs) (he .cosine-le));
+  z = omega (arith, scaled-le (aberrationY s) (e .sine) aberrationConstant (aberrationY-le s hs) (he .sine-le));
+}
+
+-- ---- the local sidereal angle
+
+pub sidereal-le : (t : Ut) → natAbs (sidereal t) ≤ circle
+unfolding sidereal
+sidereal-le t = omega (arith, modulo-lt (siderealPolynomial t +ℤ pos 15000 *ℤ pos (modulo (t .0) day)) circle (lit< tt))
+
+pub localSidereal-le : (ut : Ut) (tt : Tt) (site : Site) → InRange (tt .0) → natAbs (site .longitude) ≤ half
+    → natAbs (localSidereal ut tt site) ≤ 2 * circle
+unfolding localSidereal
+localSidereal-le ut tt site h hs =
+    let e = rnd (nutation tt .longitude *ℤ pair (obliquity tt) .cosine) unit in
+    omega (
+      arith,
+      abs-add (sidereal ut +ℤ e) (site .longitude),
+      abs-add (sidereal ut) e,
+      sidereal-le ut,
+      scaled-le (nutation tt .longitude) (pair (obliquity tt) .cosine) 19325980
+          (ten-terms tt h .longitude-le) (pair-sized (obliquity tt) .cosine-le),
+    )
+
+-- ---- a site that is not refused
+
+pub record SiteRanges (s : Site) : Type 0 where
+  pub latitude-le : natAbs (s .latitude) ≤ quarter
+  pub longitude-le : natAbs (s .longitude) ≤ half
+
+pub site-ranges : (s : Site) → siteRefused s ≡ false → SiteRanges s
+unfolding siteRefused
+site-ranges s e =
+    let k = both (within quarter (s .latitude)) (within half (s .longitude)) e in
+    record {
+      latitude-le = within-le quarter (s .latitude) (k .0);
+      longitude-le = within-le half (s .longitude) (k .1);
+    }
+  where
+    both : (a b : Bool) → not (a && b) ≡ false → (a ≡ true) × (b ≡ true)
+    both true true e = (refl, refl)
+    both true false e = absurd (subst T e tt)
+    both false b e = absurd (subst T e tt)
+
+-- ---- the obliquity
+
+pub obliquity-le : (t : Tt) → InRange (t .0) → natAbs (obliquity t) ≤ 2 ^ 40
+unfolding obliquity
+obliquity-le t h = le-trans (polynomial-le obliquityRow (t .0) h) (lit≤ tt)
+
+-- ---- a night
+
+-- what the steps of a place ask of a night
+pub record NightFits (n : Night) : Type 0 where
+  pub instant : InRange (n .tt .0)
+  pub zeta : Accepted (pairSquares (n .zeta))
+  pub theta : Accepted (pairSquares (n .theta))
+  pub z : Accepted (pairSquares (n .z))
+  pub aberration : PartsLe mostAdded (n .aberration)
+  pub mean : Accepted (pairSquares (n .mean))
+  pub longitude : Accepted (pairSquares (n .longitude))
+  pub obliquity : Accepted (pairSquares (n .obliquity))
+  pub sidereal : Accepted (pairSquares (n .sidereal))
+  pub latitude : Accepted (pairSquares (n .latitude))
+
+pub night-fits : (ut : Ut) (tt : Tt) (site : Site) → InRange (tt .0) → NightFits (night ut tt site)
+unfolding night
+night-fits ut tt site h = record {
+  instant = h;
+  zeta = pair-length _;
+  theta = pair-length _;
+  z = pair-length _;
+  aberration = aberration-le (pair (sunLongitude tt)) (pair (obliquity tt)) (pair-sized _) (pair-sized _);
+  mean = pair-length _;
+  longitude = pair-length _;
+  obliquity = pair-length _;
+  sidereal = pair-length _;
+  latitude = pair-length _;
+}

@@ -1,0 +1,118 @@
+-- The steps of a place: how far the angles reach, and that every direction on the way is accepted, so that no turn is
+-- refused and no length is nought.
+use mathlib.Core.Path.{_≡_, refl, subst}
+use mathlib.Core.Bool.{Bool, true, false, not, _&&_}
+use Prim.Native.Nat.{_-_, _*_, _≤_}
+use native.Mathlib.Nat.{mul-le-mul}
+use native.Mathlib.Omega.{arith}
+use lib.Dec.{T, lit<, lit≤}
+use lib.IntN.{ℤ, pos, negsuc, negℤ, natAbs, _*ℤ_}
+use Rattle.integers.specs.Size.{abs-add, abs-mul}
+use Rattle.rules.specs.declared.Tt.{Tt}
+use Rattle.rules.specs.declared.Direction.{Direction}
+use Rattle.rules.specs.declared.Night.{Night}
+use Rattle.rules.specs.declared.Star.{Star}
+use Rattle.rules.specs.Units.{circle, quarter, year, unit, +_, between, within}
+use Rattle.rules.specs.Rounding.{rnd, remainder}
+use Rattle.rules.specs.Length.{square, squares}
+use Rattle.rules.specs.Circle.{pair}
+use Rattle.rules.specs.Turning.{Accepted}
+use Rattle.rules.specs.Place.{mostMotion, starRefused, moved, directed, precessed, aberrated, nutated, apparent, overhead}
+use Rattle.laws.specs.Units.{between-parts, within-le}
+use Rattle.laws.specs.Rounding.{rnd-under}
+use Rattle.laws.specs.Instant.{InRange}
+use Rattle.laws.specs.Angles.{pair-length}
+use Rattle.laws.specs.Turning.{turnBy-accepted}
+use Rattle.laws.specs.Aberration.{plus-accepted}
+use Rattle.laws.specs.Night.{NightFits}
+
+-- ---- a star that is not refused
+
+pub record StarRanges (s : Star) : Type 0 where
+  pub ra-le : natAbs (s .ra) ≤ circle
+  pub declination-le : natAbs (s .declination) ≤ quarter
+  pub ra-motion-le : natAbs (s .«ra_motion») ≤ mostMotion
+  pub declination-motion-le : natAbs (s .«declination_motion») ≤ mostMotion
+
+pub star-ranges : (s : Star) → starRefused s ≡ false → StarRanges s
+unfolding starRefused
+star-ranges s e =
+    let k = and4 (between (pos 0) (pos (circle - 1)) (s .ra)) (within quarter (s .declination))
+    (within mostMotion (s .«ra_motion»)) (within mostMotion (s .«declination_motion»)) e in
+    record {
+      ra-le = range-le (s .ra) (k .0);
+      declination-le = within-le quarter (s .declination) (k .1);
+      ra-motion-le = within-le mostMotion (s .«ra_motion») (k .2);
+      declination-motion-le = within-le mostMotion (s .«declination_motion») (k .3);
+    }
+  where
+    and4 : (a b c d : Bool) → not (a && b && c && d) ≡ false → (a ≡ true) × (b ≡ true) × (c ≡ true) × (d ≡ true)
+    and4 true true true true e = (refl, refl, refl, refl)
+    and4 true true true false e = absurd (subst T e tt)
+    and4 true true false d e = absurd (subst T e tt)
+    and4 true false c d e = absurd (subst T e tt)
+    and4 false b c d e = absurd (subst T e tt)
+
+    range-le : (z : ℤ) → between (pos 0) (pos (circle - 1)) z ≡ true → natAbs z ≤ circle
+    range-le (pos n) h = omega (arith, between-parts (pos 0) (pos (circle - 1)) (pos n) h .1)
+    range-le (negsuc n) h = absurd (omega (arith, between-parts (pos 0) (pos (circle - 1)) (negsuc n) h .0))
+
+-- 1. the motion of a century is at most a hundred times that of a year
+pub moved-le : (t : Tt) (angle motion : ℤ) → InRange (t .0) → natAbs angle ≤ circle → natAbs motion ≤ mostMotion
+    → natAbs (moved t angle motion) ≤ 2 * circle
+unfolding moved
+moved-le t angle motion h ha hm =
+    let carried = rnd (motion *ℤ t .0) year in
+    omega (
+      arith,
+      abs-add angle carried,
+      rnd-under (motion *ℤ t .0) year (100 * mostMotion) (lit< tt)
+          (rw (abs-mul motion (t .0)) (omega (arith, mul-le-mul hm h))),
+    )
+
+-- ---- directions
+
+-- the direction that step 2 begins with
+abbrev pub ahead : Direction
+ahead = record { x = pos unit; y = pos 0; z = pos 0 }
+
+pub ahead-accepted : Accepted (squares ahead)
+unfolding squares square
+ahead-accepted = record { low = lit≤ tt; high = lit≤ tt }
+
+pub directed-accepted : (ra declination : ℤ) → Accepted (squares (directed ra declination))
+unfolding directed
+directed-accepted ra declination =
+    turnBy-accepted (+ 3) (pair (remainder ra)) _ (pair-length (remainder ra))
+    (turnBy-accepted (+ 2) (pair (remainder (negℤ declination))) ahead (pair-length (remainder (negℤ declination)))
+    ahead-accepted)
+
+module _ (n : Night) (h : NightFits n) where
+  pub precessed-accepted : (v : Direction) → Accepted (squares v) → Accepted (squares (precessed n v))
+  unfolding precessed
+  precessed-accepted v k =
+      turnBy-accepted (+ 3) (n .z) _ (h .z)
+      (turnBy-accepted (+ 2) (n .theta) _ (h .theta)
+      (turnBy-accepted (+ 3) (n .zeta) v (h .zeta) k))
+
+  pub aberrated-accepted : (v : Direction) → Accepted (squares v) → Accepted (squares (aberrated n v))
+  unfolding aberrated
+  aberrated-accepted v k = plus-accepted v (n .aberration) k (h .aberration)
+
+  pub nutated-accepted : (v : Direction) → Accepted (squares v) → Accepted (squares (nutated n v))
+  unfolding nutated
+  nutated-accepted v k =
+      turnBy-accepted (+ 1) (n .obliquity) _ (h .obliquity)
+      (turnBy-accepted (+ 3) (n .longitude) _ (h .longitude)
+      (turnBy-accepted (+ 1) (n .mean) v (h .mean) k))
+
+  pub overhead-accepted : (v : Direction) → Accepted (squares v) → Accepted (squares (overhead n v))
+  unfolding overhead
+  overhead-accepted v k =
+      turnBy-accepted (+ 2) (n .latitude) _ (h .latitude) (turnBy-accepted (+ 3) (n .sidereal) v (h .sidereal) k)
+
+  pub apparent-accepted : (s : Star) → Accepted (squares (apparent n s))
+  unfolding apparent
+  apparent-accepted s =
+      nutated-accepted _ (aberrated-accepted _ (precessed-accepted _ (directed-accepted
+      (moved (n .tt) (s .ra) (s .«ra_motion»)) (moved (n .tt) (s .declination) (s .«declination_motion»)))))

@@ -1,0 +1,3 @@
+-- What the inner functions of a place are given, and what they tell.
+pub mod Given
+pub mod Parts

@@ -1,0 +1,2 @@
+-- What the private functions of this crate ask and tell.
+pub mod Trial
