@@ -56,5 +56,11 @@ pub mod Dates
 pub mod Instants
 pub mod Parts
 pub mod Bytes
+pub mod ByteByByte
 pub mod Records
+pub mod FileLength
+pub mod FileTests
 pub mod StarList
+pub mod ListWriting
+pub mod StarWidths
+pub mod RoundTrip

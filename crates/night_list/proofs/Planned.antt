@@ -13,7 +13,6 @@ use Rattle.rules.specs.declared.Site.{Site}
 use Rattle.rules.specs.declared.Night.{Night}
 use Rattle.rules.specs.declared.Entry.{Entry}
 use Rattle.rules.specs.declared.Prepared.{Prepared}
-use Rattle.rules.specs.declared.Refusal.{Refusal}
 use Rattle.rules.specs.declared.Listed.{Listed}
 use Rattle.rules.specs.Night.{nightOf}
 use Rattle.rules.specs.NightList.{worked, marked, listRefused, listedIn, nightList, workedIn, entriesAfterNight}
@@ -37,7 +36,8 @@ record Done (night : Prepared) (xs : List Entry) (todo : ℕ) : Type 0 where
 whole-list : (n : Night) (xs : List Entry) → workedAll (Prepared.For n) (length xs) xs ≡ map (worked n) xs
 whole-list n xs = ap (map (workedBy (Prepared.For n))) (take-length xs) ∙ all-worked n xs
 
-by-count : (n : Night) (xs : List Entry) (t : Bool) → ltb 64 (length xs) ≡ t → Done (Prepared.For n) xs (cond t 0 (length xs))
+by-count : (n : Night) (xs : List Entry) (t : Bool) → ltb 64 (length xs) ≡ t
+    → Done (Prepared.For n) xs (cond t 0 (length xs))
 unfolding answered workedIn listedIn listRefused
 by-count n xs true e = record { within = omega arith; after = rw e; answer = rw e }
 by-count n xs false e = record {
@@ -51,7 +51,8 @@ unfolding todoOf answered workedIn listedIn
 by-night (Prepared.Refused r) xs = record { within = omega arith; after = refl; answer = refl }
 by-night (Prepared.For n) xs = by-count n xs (ltb 64 (length xs)) refl
 
-module _ (m : Moment) (site : Site) (xs : List Entry) (plan : Plan) (planned : plan ≡ planOf (nightOf m site) (length xs)) where
+module _ (m : Moment) (site : Site) (xs : List Entry) (plan : Plan)
+    (planned : plan ≡ planOf (nightOf m site) (length xs)) where
   all : Done (plan .night) xs (plan .todo)
   unfolding planOf
   all = subst (λ (p : Plan). Done (p .night) xs (p .todo)) (sym planned) (by-night (nightOf m site) xs)

@@ -108,8 +108,9 @@ fn answer(plan: Plan, n: usize) -> Listed
 // A night list, worked where it stands.
 //
 // Given: moment and site, any; entries, any number, of which mark and place are not looked at.
-// Returned: how many entries are marked 0. Each entry keeps its star and has mark 0 and its place, or
-// mark 5 and four noughts where its star is refused. Or refusal 1 to 4, 6 or 11, and all entries stay.
+// Returned: how many entries are marked 0. Each entry keeps its star and has mark 0 and its place,
+// or mark 5 and four noughts where its star is refused. Or refusal 1 to 4, 6 or 11, and all entries
+// stay.
 // Rule: 01, "Lists".
 //
 // The night is worked once. A refusal is a plan with nothing to do, so no test stands beside the

@@ -1,5 +1,4 @@
 -- `night_list::answer` meets its contract.
-use mathlib.Core.Path.{_≡_}
 use borrow.Author.Needs.{needs}
 use borrow.Author.Tests.{lt-ltb, le-ltb}
 use Rattle.night_list.specs.Plans.{answered, answerOf}

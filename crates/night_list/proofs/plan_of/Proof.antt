@@ -1,7 +1,7 @@
 -- `night_list::plan_of` meets its contract.
-use mathlib.Core.Path.{_≡_, _∙_, ap}
+use mathlib.Core.Path.{_∙_, ap}
 use borrow.Author.Needs.{needs}
-use Rattle.night_list.specs.Plans.{planOf, todoOf}
+use Rattle.night_list.specs.Plans.{planOf}
 use Rattle.night_list.proofs.plan_of.Statement.{statement}
 use Rattle.night_list.proofs.plan_of.Tie as tie
 

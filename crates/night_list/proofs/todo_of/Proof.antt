@@ -1,11 +1,6 @@
 -- `night_list::todo_of` meets its contract.
-use mathlib.Core.Path.{_≡_, sym}
-use Prim.Native.Nat.{ℕ}
 use borrow.Author.Needs.{needs}
 use borrow.Author.Tests.{lt-ltb, le-ltb}
-use Rattle.rules.specs.declared.Night.{Night}
-use Rattle.rules.specs.declared.Prepared.{Prepared}
-use Rattle.rules.specs.declared.Refusal.{Refusal}
 use Rattle.night_list.specs.Plans.{todoOf}
 use Rattle.night_list.proofs.todo_of.Statement.{statement}
 use Rattle.night_list.proofs.todo_of.Tie as tie

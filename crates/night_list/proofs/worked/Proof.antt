@@ -1,11 +1,7 @@
 -- `night_list::worked` meets its contract.
-use mathlib.Core.Path.{_≡_, sym, _∙_, ap, subst}
-use mathlib.Core.Bool.{true, false}
+use mathlib.Core.Path.{sym, _∙_, ap, subst}
 use borrow.Author.Needs.{needs}
-use Rattle.rules.specs.declared.Prepared.{Prepared}
-use Rattle.rules.specs.Place.{starRefused}
 use Rattle.rules.specs.NightList.{worked}
-use Rattle.laws.specs.Night.{NightFits}
 use Rattle.night_list.specs.Plans.{workedBy, PreparedFits}
 use Rattle.night_list.proofs.worked.Statement.{statement}
 use Rattle.night_list.proofs.worked.Tie as tie
@@ -29,7 +25,8 @@ returns c =
 place-in-requires : tie.Need-place-in-requires
 unfolding PreparedFits
 place-in-requires c κs = record {
-  night = subst PreparedFits (c .before .before .before .night .given .1) (c .before .before .before .before .before .before .pre);
+  night = subst PreparedFits (c .before .before .before .night .given .1)
+      (c .before .before .before .before .before .before .pre);
   star = sym (c .before .star-refused .ensures) ∙ c .if1 .left;
 }
 
