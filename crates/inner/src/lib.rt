@@ -2,6 +2,7 @@
 // A function whose rule asks something of its numbers tests that first, so that none relies on its caller.
 
 pub mod angles;
+pub mod lists;
 pub mod numbers;
 pub mod pairs;
 pub mod turns;
