@@ -4,3 +4,4 @@ pub mod Turns
 pub mod Angles
 pub mod Pairs
 pub mod Dates
+pub mod Lists

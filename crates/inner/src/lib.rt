@@ -4,6 +4,7 @@
 pub mod angle_sets;
 pub mod angles;
 pub mod dates;
+pub mod lists;
 pub mod numbers;
 pub mod pairs;
 pub mod turns;
