@@ -1,8 +1,8 @@
 // The fields of a line of `times`: whether they have their form, and the numbers in them.
 ghost use mathlib.Core.Path.{_≡_};
 ghost use mathlib.Core.Bool.{true};
-ghost use Prim.Native.Nat.{ℕ, _≤_, _+_, _-_};
-ghost use lib.IntN.{ℤ, pos};
+ghost use Prim.Native.Nat.{_≤_, _+_, _-_};
+ghost use lib.IntN.{pos};
 ghost use lib.ListN.{length};
 ghost use Rattle.rules.specs.Lines as rule;
 

@@ -1,10 +1,10 @@
 -- `lines::fields::difference` meets its contract.
-use mathlib.Core.Path.{_≡_, refl, sym, _∙_, ap}
+use mathlib.Core.Path.{_≡_, sym, _∙_}
 use mathlib.Core.Bool.{Bool, true, false}
 use Prim.Native.Nat.{ℕ, _≤_}
 use native.Mathlib.Omega.{arith}
-use lib.IntN.{ℤ, pos, negℤ, _-ℤ_}
-use lib.ListN.{length, drop}
+use lib.IntN.{pos, negℤ, _-ℤ_}
+use lib.ListN.{length}
 use mir.Syntax.{w32}
 use mir.Val.{SFits, toZ, ofZ}
 use mir.Facts.{toZ-ofZ}
@@ -42,11 +42,13 @@ spelled-requires : tie.Need-spelled-requires
 spelled-requires c κs =
     let a = c .before in
     let s = a .before .before .before in
-    rw (to-end (s .args .s .now) 1, ← unsigned-is (s .args .s .now) true (minus (a .before) true (a .if1 .taken))) (unsigned-le s)
+    rw (to-end (s .args .s .now) 1, ← unsigned-is (s .args .s .now) true (minus (a .before) true (a .if1 .taken)))
+    (unsigned-le s)
 
 minus-is : (n : ℕ) → pos 0 -ℤ pos n ≡ negℤ (pos n)
 minus-is n =
-    eq-of-parts (pos 0 -ℤ pos n) (negℤ (pos n)) (omega (arith, sub-is (pos 0) (pos n), posPart-neg (pos n), negPart-neg (pos n)))
+    eq-of-parts (pos 0 -ℤ pos n) (negℤ (pos n)) (omega
+    (arith, sub-is (pos 0) (pos n), posPart-neg (pos n), negPart-neg (pos n)))
 
 minus-fits : (n : ℕ) → SFits w32 (pos n) → SFits w32 (pos 0 -ℤ pos n)
 minus-fits n f = rw (minus-is n) (record { sfits = omega (arith, mag-neg-le n n (omega arith), f .sfits) })
@@ -73,7 +75,13 @@ unfolding difference
 returns c =
     let a = c .before .before in
     toZ-ofZ (fits c)
-    ∙ rw (toZ-ofZ {z = c .spelled .result} (sfits-of (c .spelled .ok)), size c, minus (a .before) true (a .if1 .taken), minus-is)
+    ∙ rw (
+      toZ-ofZ {z = c .spelled .result} (sfits-of (c .spelled .ok)),
+      size c,
+      minus (a .before) true
+          (a .if1 .taken),
+      minus-is,
+    )
 
 spelled-requires-2 : tie.Need-spelled-requires-2
 spelled-requires-2 c κs =

@@ -1,8 +1,9 @@
--- `lines::fields::spelled` meets its contract. The number so far, with the bytes left, is the number; the measure is the
+-- `lines::fields::spelled` meets its contract. The number so far, with the bytes left, is the number; the measure is
+-- the
 -- bytes left.
 use mathlib.Core.Path.{_≡_, refl, sym, _∙_, ap}
 use mathlib.Core.List.{List}
-use Prim.Native.Nat.{ℕ, _+_, _-_, _*_, _≤_, _<_}
+use Prim.Native.Nat.{ℕ, _-_, _*_, _≤_}
 use native.Mathlib.Omega.{arith}
 use lib.IntN.{pos}
 use lib.ListN.{length, getD, drop}
@@ -10,7 +11,7 @@ use mir.Syntax.{w32, w64}
 use mir.Val.{SFits, toZ}
 use mir.Facts.{toZ-ofZ}
 use borrow.Author.Needs.{needs}
-use Rattle.words.specs.Holds.{Holds, bits, _+ʷ_, _*ʷ_, nat, lit, got, add, add-ok, mul, mul-ok}
+use Rattle.words.specs.Holds.{Holds, bits, _*ʷ_, nat, lit, got, add-ok, mul, mul-ok}
 use Rattle.words.specs.Fits.{fits32}
 use Rattle.rules.specs.Lines.{spelled}
 use Rattle.laws.specs.Lines.{spelled-step, spelled-end, most, most-suc, most-le}
