@@ -44,5 +44,12 @@ while read -r name; do
     esac
 done < <(sed -n '/^## Demands/,/^## What is assumed/p' $page | grep -o '`[^` ]*`' | tr -d '`' | sort -u)
 
+# and the other way round: every edit stands on the page
+for edit in crates/*/must-fail/*.edit; do
+    crate=${edit#crates/}
+    name=${crate%%/*}:$(basename "$edit" .edit)
+    grep -q "^| .$name. |" $page || { printf 'not on the page: %s\n' "$name"; missing=$((missing + 1)); }
+done
+
 printf '%d names found, %d not\n' "$looked" "$missing"
 [ "$missing" -eq 0 ] && [ "$looked" -gt 200 ]

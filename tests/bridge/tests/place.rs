@@ -7,7 +7,7 @@ use bridge::compare::compare;
 use bridge::face::PLACE;
 use second::units::{CIRCLE, HALF_CIRCLE, QUARTER};
 
-const RANDOM: usize = 100_000;
+const RANDOM: usize = 205_000;
 
 /// Date and time, site, star: the least and the most of each part.
 const RANGES: [(i64, i64); 14] = {
