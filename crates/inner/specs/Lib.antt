@@ -3,3 +3,4 @@ pub mod Numbers
 pub mod Turns
 pub mod Angles
 pub mod Pairs
+pub mod Dates

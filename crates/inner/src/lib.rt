@@ -3,6 +3,7 @@
 
 pub mod angle_sets;
 pub mod angles;
+pub mod dates;
 pub mod numbers;
 pub mod pairs;
 pub mod turns;

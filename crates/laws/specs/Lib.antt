@@ -58,3 +58,8 @@ pub mod Parts
 pub mod Bytes
 pub mod Records
 pub mod StarList
+-- lines of `times`
+pub mod Lines
+pub mod Decimal
+pub mod Times
+pub mod Sample

@@ -1,0 +1,119 @@
+// The fields of a line of `times`: whether they have their form, and the numbers in them.
+ghost use mathlib.Core.Path.{_≡_};
+ghost use mathlib.Core.Bool.{true};
+ghost use Prim.Native.Nat.{ℕ, _≤_, _+_, _-_};
+ghost use lib.IntN.{ℤ, pos};
+ghost use lib.ListN.{length};
+ghost use Rattle.rules.specs.Lines as rule;
+
+// A 0 stands for any digit, every other byte for itself.
+const FORM: [u8; 24] = *b"0000-00-00 00:00:00.000 ";
+
+pub fn is_digit(b: u8) -> bool
+    ensures { λ r. ⌜ r ≡ rule.isDigit b ⌝ }
+{
+    48 <= b && b <= 57
+}
+
+// Whether a byte is as the form's.
+pub fn alike(f: u8, b: u8) -> bool
+    ensures { λ r. ⌜ r ≡ rule.alike f b ⌝ }
+{
+    if is_digit(f) { is_digit(b) } else { f == b }
+}
+
+// Whether date and time have their form.
+pub fn of_form(s: &[u8]) -> bool
+    requires { ⌜ length (now s) ≡ 24 ⌝ }
+    ensures { λ r. ⌜ r ≡ rule.ofForm rule.form (now (s .entry)) ⌝ }
+{
+    let mut i = 0;
+    while i < 24 {
+        if !alike(FORM[i], s[i]) {
+            return false;
+        }
+        i += 1;
+    }
+    true
+}
+
+// Whether the bytes are 1 to 4 digits.
+pub fn of_digits(s: &[u8]) -> bool
+    ensures { λ r. ⌜ r ≡ rule.ofDigits (now (s .entry)) ⌝ }
+{
+    if s.len() < 1 {
+        return false;
+    }
+    if 4 < s.len() {
+        return false;
+    }
+    let mut i = 0;
+    while i < s.len() {
+        if !is_digit(s[i]) {
+            return false;
+        }
+        i += 1;
+    }
+    true
+}
+
+// Whether the bytes begin with a minus.
+pub fn negative(s: &[u8]) -> bool
+    ensures { λ r. ⌜ r ≡ rule.negative (now (s .entry)) ⌝ }
+{
+    if s.len() < 1 {
+        return false;
+    }
+    s[0] == 45
+}
+
+// Whether the bytes are an optional minus, then 1 to 4 digits.
+pub fn of_difference(s: &[u8]) -> bool
+    ensures { λ r. ⌜ r ≡ rule.ofDifference (now (s .entry)) ⌝ }
+{
+    if negative(s) {
+        return of_digits(&s[1..]);
+    }
+    of_digits(s)
+}
+
+// The value of a digit; 0 for what comes before the digits.
+pub fn value(b: u8) -> i64
+    ensures { λ r. ⌜ r ≡ pos (b - 48) ⌝ }
+{
+    if b < 48 { 0 } else { b as i64 - 48 }
+}
+
+// The number that a row of digits spells.
+pub fn spelled(s: &[u8]) -> i32
+    requires { ⌜ length (now s) ≤ 4 ⌝ }
+    ensures { λ r. ⌜ r ≡ pos (rule.spelled 0 (now (s .entry))) ⌝ }
+{
+    let mut n: i64 = 0;
+    let mut i = 0;
+    while i < s.len() {
+        n = 10 * n + value(s[i]);
+        i += 1;
+    }
+    n as i32
+}
+
+// The number in some bytes of a line.
+pub fn field(line: &[u8], from: usize, count: usize) -> i32
+    requires { ⌜ (count ≤ 4) × (from + count ≤ length (now line)) ⌝ }
+    ensures { λ r. ⌜ r ≡ rule.field from count (now (line .entry)) ⌝ }
+{
+    let to = from + count;
+    spelled(&line[from..to])
+}
+
+// UT1-UTC, with its sign.
+pub fn difference(s: &[u8]) -> i32
+    requires { ⌜ rule.ofDifference (now s) ≡ true ⌝ }
+    ensures { λ r. ⌜ r ≡ rule.difference (now (s .entry)) ⌝ }
+{
+    if negative(s) {
+        return 0 - spelled(&s[1..]);
+    }
+    spelled(s)
+}
