@@ -1,0 +1,53 @@
+-- How long the parts of a line of the answer are, and a line at most.
+use mathlib.Core.Path.{_≡_, refl, ap, _∙_}
+use mathlib.Core.Bool.{Bool, true, false, cond}
+use mathlib.Core.List.{List, _∷_, _++_}
+use Prim.Native.Nat.{ℕ, _+_, _/_, _%_, _^_, _≤_, _<_}
+use native.Mathlib.Omega.{arith}
+use lib.ListN.{length, length-append}
+use lib.IntN.{ℤ, pos, natAbs}
+use Rattle.rules.specs.Lines.{colon, point}
+use Rattle.rules.specs.Times.{decimal}
+use Rattle.laws.specs.Decimal.{lastDigits, length-last-digits, word-limit, length-decimal}
+use Rattle.rules.specs.Rounding.{rnd}
+use Rattle.place_lines.specs.Sexagesimal.{marked, clock, sexagesimal, roundIn, hours, bearing, signOf, elevation}
+
+-- a number of 64 bits
+pub number-le : (z : ℤ) → natAbs z ≤ 2 ^ 63 → length (decimal z) ≤ 20
+number-le z h = length-decimal z (word-limit z h)
+
+pub marked-length : (mark digits n : ℕ) → length (marked mark digits n) ≡ 1 + digits
+unfolding marked
+marked-length mark digits n = omega (arith, length-last-digits digits n)
+
+pub clock-length : (width s : ℕ) → length (clock width s) ≡ width + 6
+unfolding clock
+clock-length width s =
+    length-append (lastDigits width (s / 3600) ++ marked colon 2 (s / 60 % 60)) (marked colon 2 (s % 60))
+    ∙ omega (
+      arith,
+      length-append (lastDigits width (s / 3600)) (marked colon 2 (s / 60 % 60)),
+      length-last-digits width (s / 3600),
+      marked-length colon 2 (s / 60 % 60),
+      marked-length colon 2 (s % 60),
+    )
+
+pub sexagesimal-length : (width s digits n : ℕ) → length (sexagesimal width s digits n) ≡ width + 7 + digits
+unfolding sexagesimal
+sexagesimal-length width s digits n =
+    length-append (clock width s) (marked point digits n)
+    ∙ omega (arith, clock-length width s, marked-length point digits n)
+
+pub hours-length : (z : ℤ) → length (hours z) ≡ 11
+unfolding hours
+hours-length z = let n = roundIn 8640000 150000 z in omega (arith, sexagesimal-length 2 (n / 100) 2 n)
+
+pub bearing-length : (z : ℤ) → length (bearing z) ≡ 11
+unfolding bearing
+bearing-length z = let n = roundIn 12960000 100000 z in omega (arith, sexagesimal-length 3 (n / 10) 1 n)
+
+pub elevation-length : (z : ℤ) → length (elevation z) ≡ 11
+unfolding elevation
+elevation-length z =
+    let n = natAbs (rnd z 100000) in
+    omega (arith, sexagesimal-length 2 (n / 10) 1 n)

@@ -1,0 +1,10 @@
+-- Our own program `places`, not document 01: what it reads and what it prints, as definitions, and what is known of them.
+pub mod Asking
+pub mod Sexagesimal
+pub mod Answers
+-- laws
+pub mod Words
+pub mod Rows
+pub mod Lengths
+pub mod Quotients
+pub mod Entries
