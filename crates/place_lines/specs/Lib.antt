@@ -5,6 +5,6 @@ pub mod Answers
 -- laws
 pub mod Words
 pub mod Rows
-pub mod Lengths
 pub mod Quotients
 pub mod Entries
+pub mod Lengths

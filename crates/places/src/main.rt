@@ -11,16 +11,14 @@ ghost use Rattle.laws.specs.Night.{NightFits};
 use place_lines::Begun;
 use rules::Night;
 
-// The longest file that is accepted, and a byte more: a longer one is refused by what is read of it.
-const MOST: usize = 1544;
-
 // A line: its first bytes, as many as there is room for. A longer line is of another form, and so is its start.
 pub struct Start {
     pub bytes: [u8; 64],
     pub len: usize,
 }
 
-// A file: its first bytes, and whether it could be read.
+// A file: its first bytes, and whether it could be read. There is room for 7 + 24 * 64 bytes, the longest file that is
+// accepted, and a byte more: a longer one is refused by what is read of it.
 pub struct Contents {
     pub bytes: [u8; 1544],
     pub len: usize,
@@ -180,6 +178,10 @@ fn main() {
     let end = os::arg(2, &mut word);
     let people = is_sexagesimal(&word[..end]);
     if 2 < arguments && !people {
+        usage();
+        return;
+    }
+    if 3 < arguments {
         usage();
         return;
     }

@@ -98,8 +98,7 @@ rem-put-marked-2 c =
 put-marked-requires-2 : tie.Need-put-marked-requires-2
 put-marked-requires-2 c κs =
     let m = c .before .before .before in
-    let s = start (d m) in
-    (
+    let s = start (d m) in (
       lit≤ tt,
       omega (
         arith,

@@ -51,8 +51,7 @@ add-put-parts c = search needs
 put-parts-requires : tie.Need-put-parts-requires
 put-parts-requires c κs =
     let s = c .before .before .before .before in
-    let out = set (s .args .out .now) (s .args .at) 32 in
-    (
+    let out = set (s .args .out .now) (s .args .at) 32 in (
       lit≤ tt,
       (
         lit≤ tt,

@@ -32,8 +32,7 @@ module _ (c : tie.After-put-clock) where
 put-marked-requires : tie.Need-put-marked-requires
 put-marked-requires c κs =
     let x = c .before .before .before in
-    let s = start x in
-    (
+    let s = start x in (
       s .pre .1 .0,
       omega (arith, s .pre, put-1 x .end, put-length (put-1 x), clock-length (s .args .width) (natAbs (s .args .seconds))),
     )
