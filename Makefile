@@ -1,9 +1,13 @@
 # What there is to do here. `make` alone lists it.
-.PHONY: help test format clean
+.PHONY: help run test format clean
 .DEFAULT_GOAL := help
 
 help: ## list the targets
 	@sed -n 's/^\([a-z]*\):.*## /  make \1\t/p' Makefile
+
+run: ## prove and run the program `places` on the stars of examples/bright.slt
+	@mkdir -p target && rt check places >target/run.log 2>&1 || { cat target/run.log; exit 1; }
+	@tests/host.sh run target/bin/places examples/bright.slt <crates/places/stdin
 
 test: ## prove all and run all tests: the gate, .ci/run
 	@.ci/run
@@ -14,5 +18,3 @@ format: ## lay out the Rattle, antt and Rust files
 
 clean: ## remove what was built
 	rm -rf target tests/target
-
-# The programs go here: `make run` proves what it needs, builds and runs one on its example.

@@ -4,6 +4,7 @@
 #
 #   host.sh build OUT SOURCE.c [ARCHIVE.a ..]
 #   host.sh run PROGRAM [WORD ..]
+#   host.sh header HEADER.h
 set -eu
 
 here=$(cd "$(dirname "$0")" && pwd -P)
@@ -17,7 +18,7 @@ build() {
     mkdir -p "$(dirname "$out")"
     # the kit's compiler brings no headers: c/headers has the few that are included
     "$tools/clang" --target=x86_64-unknown-linux-gnu -std=c11 -O2 -fPIC -Wall -Wextra -Wpedantic -Werror \
-        -nostdinc -isystem "$here/c/headers" -c "$source" -o "$out.o"
+        -nostdinc -isystem "$here/c/headers" -I "$here/../include" -c "$source" -o "$out.o"
     # whole archives: the driver names functions weakly, and a weak name alone takes nothing out of an archive
     "$tools/ld.lld" -pie -dynamic-linker /lib64/ld-linux-x86-64.so.2 -o "$out" \
         "$lib/Scrt1.o" "$lib/crti.o" "$lib/crtbeginS.o" "$out.o" --whole-archive "$@" --no-whole-archive \
@@ -30,6 +31,16 @@ run() {
     exec $emulator "$lib/ld-linux-x86-64.so.2" --library-path "$lib" "$@"
 }
 
+# The header by itself, as C11 and as C++; included twice.
+header() {
+    for language in c c++; do
+        standard=-std=c11
+        [ $language = c ] || standard=-std=c++11
+        printf '#include "%s"\n#include "%s"\n' "$1" "$1" | "$tools/clang" --target=x86_64-unknown-linux-gnu \
+            -x $language $standard -Wall -Wextra -Wpedantic -Werror -nostdinc -isystem "$here/c/headers" -fsyntax-only -
+    done
+}
+
 usage() {
     sed -n 's/^#   /usage: /p' "$0" >&2
     exit 2
@@ -38,6 +49,7 @@ usage() {
 case ${1-} in
 build) [ $# -ge 3 ] || usage ;;
 run) [ $# -ge 2 ] || usage ;;
+header) [ $# -eq 2 ] || usage ;;
 *) usage ;;
 esac
 "$@"

@@ -7,11 +7,11 @@
 #include <string.h>
 
 #include "inner.h"
-#include "module.h"
+#include "turbelicus.h"
 
 struct call {
     const int64_t *given;
-    const void *read; /* both begin at a whole word, so that entries may stand there */
+    const void *read; /* both begin at a whole word, so that numbers may stand there */
     size_t read_length;
     void *room;
     size_t room_length;
@@ -51,13 +51,10 @@ static int32_t narrow(int64_t word) {
     FUNCTION(turbelicus_place, 14, struct turbelicus_placed, narrow(given[0]), narrow(given[1]), narrow(given[2]),     \
              narrow(given[3]), narrow(given[4]), narrow(given[5]), narrow(given[6]), narrow(given[7]), given[8],       \
              given[9], given[10], given[11], narrow(given[12]), narrow(given[13]))                                     \
-    FUNCTION(inner_list_read, 0, struct inner_counted, call->read, call->read_length,                                  \
-             call->room, call->room_length / sizeof(struct inner_entry))                                               \
-    FUNCTION(inner_list_write, 0, struct inner_counted, call->read,                                                    \
-             call->read_length / sizeof(struct inner_entry), call->room, call->room_length)                            \
-    FUNCTION(inner_night_list, 10, struct inner_counted, narrow(given[0]), narrow(given[1]), narrow(given[2]),         \
-             narrow(given[3]), narrow(given[4]), narrow(given[5]), narrow(given[6]), narrow(given[7]), given[8],       \
-             given[9], call->room, call->room_length / sizeof(struct inner_entry))
+    FUNCTION(turbelicus_list_count, 0, struct turbelicus_counted, call->read, call->read_length)                       \
+    FUNCTION(turbelicus_list_star, 1, struct turbelicus_starred, call->read, call->read_length, (size_t)given[0])      \
+    FUNCTION(turbelicus_list_write, 0, struct turbelicus_written, call->read, call->read_length / sizeof(int64_t),     \
+             call->room, call->room_length)
 
 /* A weak name is null where no archive has the function, so that the driver can be built before all of them stand. */
 #define CALLER(function, count, type, ...)                                                                             \
@@ -106,6 +103,25 @@ static int64_t whole_words(int64_t bytes) {
     return (bytes + 7) / 8;
 }
 
+/* The room of a call stands between guards, which none may write. */
+#define GUARD_BYTES 64
+#define GUARD_BYTE 0xa5
+static _Alignas(int64_t) unsigned char guarded[GUARD_BYTES + sizeof answers + GUARD_BYTES];
+
+/* Makes the call in a room of exactly its length, which is as lent before and is put into room afterwards. */
+static void call_guarded(const struct row *row, struct call *call, const void *lent, void *room, int64_t *answered) {
+    unsigned char *middle = guarded + GUARD_BYTES, *end = middle + call->room_length;
+    memset(guarded, GUARD_BYTE, GUARD_BYTES);
+    memcpy(middle, lent, call->room_length);
+    memset(end, GUARD_BYTE, GUARD_BYTES);
+    call->room = middle;
+    row->call(call, answered);
+    for (size_t i = 0; i < GUARD_BYTES; i++) {
+        if (guarded[i] != GUARD_BYTE || end[i] != GUARD_BYTE) fail("it writes past its room", row->name);
+    }
+    memcpy(room, middle, call->room_length);
+}
+
 /* Answers all the calls of the body; returns how many words that made. */
 static int64_t answer(const struct batch *batch, const struct row *row) {
     int64_t at = 0, made = 0;
@@ -119,9 +135,8 @@ static int64_t answer(const struct batch *batch, const struct row *row) {
         made += row->answered + whole_words(room_length);
         if (at > MOST_WORDS || made > MOST_WORDS) fail("the batch is too large", batch->name);
 
-        memcpy(room, lent, (size_t)whole_words(room_length) * sizeof *room);
-        struct call call = {words, read, (size_t)read_length, room, (size_t)room_length};
-        row->call(&call, answered);
+        struct call call = {words, read, (size_t)read_length, NULL, (size_t)room_length};
+        call_guarded(row, &call, lent, room, answered);
     }
     if (at * 8 != batch->bytes) fail("the calls do not fill the batch", batch->name);
     return made;

@@ -64,23 +64,4 @@ struct inner_nutation inner_nutation(int64_t tt);
 struct inner_angle inner_sun(int64_t tt);
 struct inner_angle inner_sidereal(int64_t ut);
 
-/* An entry of a list: star, mark, place. */
-struct inner_entry {
-    int64_t ra, declination;
-    int32_t ra_motion, declination_motion;
-    uint8_t mark;
-    int64_t apparent_ra, apparent_declination, azimuth, altitude;
-};
-
-struct inner_counted {
-    int64_t refused, count;
-};
-
-struct inner_counted inner_list_read(const uint8_t *file, size_t file_len, struct inner_entry *room, size_t room_len);
-struct inner_counted inner_list_write(const struct inner_entry *entries, size_t entries_len, uint8_t *room,
-                                      size_t room_len);
-struct inner_counted inner_night_list(int32_t year, int32_t month, int32_t day, int32_t hour, int32_t minute,
-                                      int32_t second, int32_t ms, int32_t difference, int64_t latitude,
-                                      int64_t longitude, struct inner_entry *entries, size_t entries_len);
-
 #endif

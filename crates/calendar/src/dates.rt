@@ -1,7 +1,6 @@
 // Dates of the span, and the days of the span before them.
 ghost use mathlib.Core.Path.{_≡_};
-ghost use Prim.Native.Nat.{ℕ};
-ghost use lib.IntN.{ℤ, natAbs};
+ghost use lib.IntN.{natAbs};
 ghost use Rattle.rules.specs.Calendar as rule;
 ghost use Rattle.laws.specs.Ranges.{InRange};
 ghost use Rattle.laws.specs.DayNumbers.{RealDate};
@@ -60,7 +59,8 @@ pub fn date_in(year: i64, days: i64) -> Date
     }
 }
 
-// The date that has a number of days of the span before it: four years are 1461 days, a leap year first.
+// The date that has a number of days of the span before it: four years are 1461 days, a leap year
+// first.
 pub fn date_at(count: i64) -> Date
     requires { ⌜ InRange 0 46751 count ⌝ }
     ensures { λ r. ⌜ r ≡ rule.dateOfCount (natAbs count) ⌝ }

@@ -1,7 +1,7 @@
 // Added seconds, the time of day, UT and TT.
 ghost use mathlib.Core.Path.{_≡_};
-ghost use Prim.Native.Nat.{ℕ, _≤_};
-ghost use lib.IntN.{ℤ, pos, natAbs};
+ghost use Prim.Native.Nat.{_≤_};
+ghost use lib.IntN.{pos, natAbs};
 ghost use Rattle.rules.specs.Dates as rule;
 ghost use Rattle.laws.specs.Instants.{RealTime, InstantParts};
 ghost use Rattle.laws.specs.Parts.{timeOfParts, utcAt, instantsAt};

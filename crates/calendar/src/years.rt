@@ -1,7 +1,7 @@
 // Years and months: their lengths, and the days of the span before them.
 ghost use mathlib.Core.Path.{_≡_};
-ghost use Prim.Native.Nat.{ℕ, _<_, _≤_, _-_};
-ghost use lib.IntN.{ℤ, pos, natAbs};
+ghost use Prim.Native.Nat.{_<_, _≤_, _-_};
+ghost use lib.IntN.{pos, natAbs};
 ghost use lib.ListN.{getD, take};
 ghost use Rattle.rules.specs.Units.{between};
 ghost use Rattle.rules.specs.Calendar as rule;

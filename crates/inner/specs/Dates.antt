@@ -3,7 +3,8 @@ use lib.ListN.{getD}
 use lib.IntN.{ℤ, pos}
 use Rattle.rules.specs.declared.Date.{Date}
 use Rattle.rules.specs.declared.Moment.{Moment}
-use Rattle.rules.specs.Refusals.{Answer}
+use Rattle.rules.specs.Refusals.{Answer, instantsAnswer}
+use Rattle.rules.specs.Dates.{instants}
 use Rattle.inner.specs.declared.dates.InnerDay.{InnerDay}
 use Rattle.inner.specs.declared.dates.InnerDate.{InnerDate}
 use Rattle.inner.specs.declared.dates.InnerInstants.{InnerInstants}
@@ -37,3 +38,6 @@ innerInstants a = record {
   ut = getD (a .values) 0 (pos 0);
   tt = getD (a .values) 1 (pos 0);
 }
+
+abbrev pub instantsOf : ℤ → ℤ → ℤ → ℤ → ℤ → ℤ → ℤ → ℤ → InnerInstants
+instantsOf y m d h min s ms diff = innerInstants (instantsAnswer (instants (inMoment y m d h min s ms diff)))

@@ -1,6 +1,5 @@
 -- What the exports for the tests answer.
 pub mod Numbers
-pub mod Turns
 pub mod Angles
 pub mod Pairs
 pub mod Dates

@@ -7,15 +7,12 @@ use rules::Moment;
 use rules::Numbered;
 use rules::Time;
 ghost use mathlib.Core.Path.{_≡_};
-ghost use lib.IntN.{ℤ};
 ghost use lib.ListN.{length};
 ghost use Rattle.rules.specs.Refusals.{numberedAnswer, datedAnswer, instantsAnswer};
 ghost use Rattle.rules.specs.Calendar.{dayOf, dateOf};
-ghost use Rattle.rules.specs.Dates.{instants};
-ghost use Rattle.rules.specs.Lines.{lineOf};
-ghost use Rattle.rules.specs.Times.{overlaid};
-ghost use Rattle.lines.specs.Room.{printedIn};
-ghost use Rattle.inner.specs.Dates.{inDate, inMoment, innerDay, innerDate, innerInstants};
+ghost use Rattle.lines.specs.Printed.{printedIn, overlaidIn};
+ghost use Rattle.inner.specs.Dates.{inDate, innerDay, innerDate, innerInstants};
+ghost use Rattle.inner.specs.Dates.{instantsOf};
 
 // The refusal's number and nought, or 0 and the day number.
 #[repr(C)]
@@ -73,7 +70,7 @@ pub extern "C" fn inner_instants(
     ms: i32,
     difference: i32,
 ) -> InnerInstants
-    ensures { λ r. ⌜ r ≡ innerInstants (instantsAnswer (instants (inMoment year month day hour minute second ms difference))) ⌝ }
+    ensures { λ r. ⌜ r ≡ instantsOf year month day hour minute second ms difference ⌝ }
 {
     instants_out(calendar::instants(Moment {
         date: Date {
@@ -91,11 +88,12 @@ pub extern "C" fn inner_instants(
     }))
 }
 
-// What `times` prints for a line, without its end; 0 and nothing where the room has fewer than 64 bytes.
+// What `times` prints for a line, without its end; 0 and nothing where the room has fewer than
+// 64 bytes.
 #[no_mangle]
 pub extern "C" fn inner_times_line(line: &[u8], out: &mut [u8]) -> usize
-    ensures answer { λ r. ⌜ r ≡ length (printedIn (now (out .entry)) (lineOf (now (line .entry)))) ⌝ }
-    ensures kept { λ _. ⌜ now (out .exit) ≡ overlaid (printedIn (now (out .entry)) (lineOf (now (line .entry)))) (now (out .entry)) ⌝ }
+    ensures answer { λ r. ⌜ r ≡ length (printedIn (now (out .entry)) (now (line .entry))) ⌝ }
+    ensures kept { λ _. ⌜ now (out .exit) ≡ overlaidIn (now (out .entry)) (now (line .entry)) ⌝ }
 {
     lines::print_into(line, out)
 }

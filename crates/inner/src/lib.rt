@@ -6,4 +6,3 @@ pub mod angles;
 pub mod dates;
 pub mod numbers;
 pub mod pairs;
-pub mod turns;

@@ -1,8 +1,7 @@
-// Sine and cosine, and the reading, of the crate `circle`.
+// Sine and cosine, of the crate `circle`.
 
 ghost use mathlib.Core.Path.{_≡_};
 ghost use lib.IntN.{ℤ};
-ghost use Rattle.rules.specs.Reading.{reading};
 ghost use Rattle.inner.specs.Pairs.{innerPair};
 
 // Cosine and sine, in parts of 2^30.
@@ -22,12 +21,4 @@ pub extern "C" fn inner_pair(angle: i64) -> InnerPair
         cosine: p.cosine,
         sine: p.sine,
     }
-}
-
-// The angle of (h, v) in µas.
-#[no_mangle]
-pub extern "C" fn inner_reading(h: i32, v: i32) -> i64
-    ensures { λ r. ⌜ r ≡ reading h v ⌝ }
-{
-    circle::reading(h, v)
 }

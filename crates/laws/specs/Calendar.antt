@@ -1,27 +1,17 @@
 -- Dates and day numbers: the lengths of months and years, the round trip both ways, the day after a date.
-use mathlib.Core.Path.{_≡_, refl, sym, ap, _∙_, subst}
-use mathlib.Core.Bool.{Bool, true, false, not, cond, _&&_}
-use mathlib.Core.Logic.{_⊎_, inl, inr, ⊎-elim}
-use mathlib.Core.List.{List, [], _∷_}
+use mathlib.Core.Path.{_≡_, refl, sym, ap, _∙_}
+use mathlib.Core.Bool.{Bool, true, false, cond}
+use mathlib.Core.List.{List, []}
 use Prim.Native.Nat.{ℕ, zero, suc, _+_, _-_, _*_, _/_, _%_, _≤_, _<_}
 use native.Mathlib.Omega.{arith}
-use lib.Dec.{T, eqb, leb, ltb, leb→le, eqb→eq}
+use lib.Dec.{T, eqb, leb, leb→le, eqb→eq}
 use lib.ListN.{length, take, getD}
-use lib.IntN.{ℤ, pos, natAbs, _+ℤ_, _-ℤ_}
-use borrow.Author.Tests.{lt-ltb, le-ltb, ltb-true, ltb-false, not-false}
-use Rattle.integers.specs.Difference.{posPart, negPart, eq-of-parts, parts-of-eq, add-is, sub-is, leZ-true}
+use lib.IntN.{pos}
 use Rattle.rules.specs.declared.Date.{Date}
-use Rattle.rules.specs.declared.Numbered.{Numbered}
-use Rattle.rules.specs.declared.Dated.{Dated}
-use Rattle.rules.specs.declared.Refusal.{Refusal}
-use Rattle.rules.specs.Units.{between}
 use Rattle.rules.specs.Calendar.{daysPerMonth, leap, months, sum, upFrom, years, daysBefore2000}
-use Rattle.rules.specs.Calendar.{dayCount, dayNumber, Fall, fall, dateOfCount, dateOfNumber}
-use Rattle.rules.specs.Calendar.{yearRefused, monthDays, dayRefused, numberRefused, dayOf, dateOf}
+use Rattle.rules.specs.Calendar.{dayCount, Fall, fall, dateOfCount}
 use Rattle.laws.specs.Every.{every, every-at}
-use Rattle.laws.specs.Ranges.{both-true, InRange, in-range, of-range, yes, true-not-false, Between, between-iff}
-use Rattle.laws.specs.Ranges.{both-iff}
-use Rattle.laws.specs.Rows.{sum-take-suc, sum-take-le, place-lt, Falls, falls, fall-one}
+use Rattle.laws.specs.Rows.{sum-take-le, place-lt, Falls, falls, fall-one}
 
 -- ---- the lengths of months
 
@@ -136,7 +126,8 @@ unfolding dayCount
 day-count-is y m d = omega arith
 
 year-of : (y : ℕ) → 1972 ≤ y → y ≤ 2099 → getD years (y - 1972) 0 ≡ sum (months y)
-year-of y h k = let e : 1972 + (y - 1972) ≡ y = omega arith in year-days (y - 1972) (omega arith) ∙ ap (λ z. sum (months z)) e
+year-of y h k = let e : 1972 + (y - 1972) ≡ y = omega arith in year-days (y - 1972) (omega arith)
+    ∙ ap (λ z. sum (months z)) e
 
 pub day-of-year-lt : (y m d : ℕ) → Real y m d → dayOfYear y m d < getD years (y - 1972) 0
 day-of-year-lt y m d q =

@@ -1,31 +1,28 @@
 -- UTC dates with their time of day: refusals 1 to 4 given exactly when, and UT and TT within a Julian century.
 use mathlib.Core.Path.{_≡_, refl, sym, ap, _∙_, subst}
-use mathlib.Core.Bool.{Bool, true, false, not, cond, _&&_}
+use mathlib.Core.Bool.{Bool, true, false, cond, _&&_}
 use mathlib.Core.Logic.{_↔_, _⊎_, inl, inr, ⊎-elim}
 use mathlib.Core.List.{map}
-use Prim.Native.Nat.{ℕ, _+_, _-_, _*_, _≤_, _<_}
+use Prim.Native.Nat.{_+_, _-_, _≤_}
 use native.Mathlib.Omega.{arith}
 use lib.Dec.{ltb}
-use lib.IntN.{ℤ, pos, negsuc, negℤ, natAbs, _+ℤ_, _-ℤ_, _*ℤ_}
-use borrow.Author.Tests.{not-false, ltb-true, ltb-false}
-use Rattle.integers.specs.Difference.{posPart, negPart, IsDifference, add-is, sub-is, mul-is}
-use Rattle.integers.specs.Size.{abs-is, abs-le}
+use lib.IntN.{ℤ, pos, negℤ, natAbs, _+ℤ_}
+use borrow.Author.Tests.{ltb-true, ltb-false}
 use Rattle.rules.specs.declared.Ut.{Ut}
 use Rattle.rules.specs.declared.Tt.{Tt}
-use Rattle.rules.specs.declared.Date.{Date}
 use Rattle.rules.specs.declared.Time.{Time}
 use Rattle.rules.specs.declared.Moment.{Moment}
 use Rattle.rules.specs.declared.Instants.{Instants}
 use Rattle.rules.specs.declared.Refusal.{Refusal}
-use Rattle.rules.specs.Units.{century, day, same, between, within}
-use Rattle.rules.specs.Calendar.{dayCount, dayNumber, yearRefused, dayRefused}
-use Rattle.rules.specs.Dates.{steps, taiMinusUtc, beforeStep, lastSecond, timeRefused, msOfDay, utc, utOf, ttOf}
+use Rattle.rules.specs.Units.{same, between, within}
+use Rattle.rules.specs.Calendar.{dayNumber, yearRefused, dayRefused}
+use Rattle.rules.specs.Dates.{steps, beforeStep, lastSecond, timeRefused, utOf, ttOf}
 use Rattle.rules.specs.Dates.{differenceRefused, instants}
-use Rattle.laws.specs.Ranges.{true-not-false, both-true, both-iff, refused-iff, accepted-iff}
+use Rattle.laws.specs.Ranges.{true-not-false, both-iff, refused-iff, accepted-iff}
 use Rattle.laws.specs.Ranges.{Between, between-iff, InRange, in-range, of-range, same-iff}
 use Rattle.laws.specs.DayNumbers.{YearExists, DayExists, year-refused-iff, year-accepted-iff, day-refused-iff}
-use Rattle.laws.specs.DayNumbers.{day-accepted-iff, RealDate, real-date, day-number-is, real-count-lt}
-use Rattle.laws.specs.Seconds.{OneOf, before-step-iff, tai-le}
+use Rattle.laws.specs.DayNumbers.{day-accepted-iff}
+use Rattle.laws.specs.Seconds.{OneOf, before-step-iff}
 
 -- ---- times of day that exist
 
@@ -51,7 +48,8 @@ last-iff : (n : ℤ) (t : Time)
     → same (t .hour) (pos 23) && same (t .minute) (pos 59) && beforeStep n ≡ true ↔ Last n t
 last-iff n t =
     both-iff (same (t .hour) (pos 23) && same (t .minute) (pos 59)) (beforeStep n)
-    (both-iff (same (t .hour) (pos 23)) (same (t .minute) (pos 59)) (same-iff (t .hour) (pos 23)) (same-iff (t .minute) (pos 59)))
+    (both-iff (same (t .hour) (pos 23)) (same (t .minute) (pos 59)) (same-iff (t .hour) (pos 23))
+    (same-iff (t .minute) (pos 59)))
     (before-step-iff n)
 
 pub last-second-le : (n : ℤ) (t : Time) → lastSecond n t ≤ 60
@@ -179,11 +177,14 @@ told false false false false u t = (refl, (refl, (refl, refl)))
 
 module _ (m : Moment) where
   pub tells : (r : Instants) → instants m ≡ r
-      → Told r (yearRefused (m .date)) (dayRefused (m .date)) (timeRefused (dayNumber (m .date)) (m .time)) (differenceRefused m)
+      → Told r (yearRefused (m .date)) (dayRefused (m .date)) (timeRefused (dayNumber (m .date)) (m .time))
+      (differenceRefused m)
   tells r e =
-      subst (λ x. Told x (yearRefused (m .date)) (dayRefused (m .date)) (timeRefused (dayNumber (m .date)) (m .time)) (differenceRefused m))
+      subst (λ x. Told x (yearRefused (m .date)) (dayRefused (m .date)) (timeRefused (dayNumber (m .date)) (m .time))
+      (differenceRefused m))
       (sym (instants-is m) ∙ e)
-      (told (yearRefused (m .date)) (dayRefused (m .date)) (timeRefused (dayNumber (m .date)) (m .time)) (differenceRefused m) (utOf m) (ttOf m))
+      (told (yearRefused (m .date)) (dayRefused (m .date)) (timeRefused (dayNumber (m .date)) (m .time))
+      (differenceRefused m) (utOf m) (ttOf m))
 
   -- refusal 1: exactly when the year is not 1972 to 2099
   pub instants-refused-1 : instants m ≡ Instants.Refused Refusal.Year ↔ ¬ (YearExists (m .date))
@@ -206,21 +207,40 @@ module _ (m : Moment) where
       ↔ YearExists (m .date) × (DayExists (m .date) × ¬ (TimeExists (dayNumber (m .date)) (m .time)))
   instants-refused-3 = (
     λ e.
-        let u = tells (Instants.Refused Refusal.Time) e in
-        (year-accepted-iff (m .date) .0 (u .0), (day-accepted-iff (m .date) .0 (u .1 .0), time-refused-iff (dayNumber (m .date)) (m .time) .0 (u .1 .1))),
+        let u = tells (Instants.Refused Refusal.Time) e in (
+          year-accepted-iff (m .date) .0 (u .0),
+          (
+            day-accepted-iff (m .date) .0 (u .1 .0),
+            time-refused-iff
+                (dayNumber (m .date)) (m .time) .0 (u .1 .1),
+          ),
+        ),
     λ p.
         instants-is m
-        ∙ rw (year-accepted-iff (m .date) .1 (p .0), day-accepted-iff (m .date) .1 (p .1 .0), time-refused-iff (dayNumber (m .date)) (m .time) .1 (p .1 .1)),
+        ∙ rw (
+          year-accepted-iff (m .date) .1 (p .0),
+          day-accepted-iff (m .date) .1 (p .1 .0),
+          time-refused-iff
+              (dayNumber (m .date)) (m .time) .1 (p .1 .1),
+        ),
   )
 
   -- refusal 4: exactly when UT1−UTC is not within ±900 ms
   pub instants-refused-4 : instants m ≡ Instants.Refused Refusal.Difference
-      ↔ YearExists (m .date) × (DayExists (m .date) × (TimeExists (dayNumber (m .date)) (m .time) × ¬ (DifferenceSmall m)))
+      ↔ YearExists (m .date) × (DayExists (m .date)
+      × (TimeExists (dayNumber (m .date)) (m .time) × ¬ (DifferenceSmall m)))
   instants-refused-4 = (
     λ e.
         let u = tells (Instants.Refused Refusal.Difference) e in (
           year-accepted-iff (m .date) .0 (u .0),
-          (day-accepted-iff (m .date) .0 (u .1 .0), (time-accepted-iff (dayNumber (m .date)) (m .time) .0 (u .1 .1 .0), difference-refused-iff m .0 (u .1 .1 .1))),
+          (
+            day-accepted-iff (m .date) .0 (u .1 .0),
+            (
+              time-accepted-iff (dayNumber (m .date)) (m .time) .0 (u .1 .1 .0),
+              difference-refused-iff m .0
+                  (u .1 .1 .1),
+            ),
+          ),
         ),
     λ p.
         instants-is m
@@ -239,7 +259,14 @@ module _ (m : Moment) where
     λ e.
         let u = tells (Instants.At (utOf m) (ttOf m)) e in (
           year-accepted-iff (m .date) .0 (u .0),
-          (day-accepted-iff (m .date) .0 (u .1 .0), (time-accepted-iff (dayNumber (m .date)) (m .time) .0 (u .1 .1 .0), difference-accepted-iff m .0 (u .1 .1 .1))),
+          (
+            day-accepted-iff (m .date) .0 (u .1 .0),
+            (
+              time-accepted-iff (dayNumber (m .date)) (m .time) .0 (u .1 .1 .0),
+              difference-accepted-iff m .0
+                  (u .1 .1 .1),
+            ),
+          ),
         ),
     λ p.
         instants-is m

@@ -1,24 +1,22 @@
 -- Day numbers of dates, and back, as answers: refused exactly when, and the round trip both ways.
-use mathlib.Core.Path.{_≡_, refl, sym, ap, _∙_, subst}
-use mathlib.Core.Bool.{Bool, true, false, not, cond, _&&_}
+use mathlib.Core.Path.{_≡_, refl, sym, ap, _∙_}
+use mathlib.Core.Bool.{Bool, true, false, cond}
 use mathlib.Core.Logic.{_↔_}
-use Prim.Native.Nat.{ℕ, zero, suc, _+_, _-_, _≤_, _<_}
+use Prim.Native.Nat.{ℕ, _+_, _-_, _≤_, _<_}
 use native.Mathlib.Omega.{arith}
 use lib.ListN.{getD}
 use lib.IntN.{ℤ, pos, negsuc, negℤ, natAbs, _+ℤ_, _-ℤ_}
-use lib.Signed.{_≤ℤ_}
 use borrow.Author.Tests.{not-false}
-use Rattle.integers.specs.Difference.{posPart, negPart, eq-of-parts, parts-of-eq, add-is, sub-is, leZ-true}
+use Rattle.integers.specs.Difference.{eq-of-parts, parts-of-eq, add-is, sub-is, leZ-true}
 use Rattle.integers.specs.Size.{abs-le}
 use Rattle.rules.specs.declared.Date.{Date}
 use Rattle.rules.specs.declared.Numbered.{Numbered}
 use Rattle.rules.specs.declared.Dated.{Dated}
 use Rattle.rules.specs.declared.Refusal.{Refusal}
-use Rattle.rules.specs.Units.{between}
-use Rattle.rules.specs.Calendar.{months, daysBefore2000, dayCount, dayNumber, dateOfCount, dateOfNumber}
+use Rattle.rules.specs.Calendar.{months, dayCount, dayNumber, dateOfCount, dateOfNumber}
 use Rattle.rules.specs.Calendar.{yearRefused, monthDays, dayRefused, numberRefused, dayOf, dateOf}
 use Rattle.laws.specs.Ranges.{yes, true-not-false, both-true, both-iff, refused-iff, accepted-iff}
-use Rattle.laws.specs.Ranges.{Between, between-iff, le-of-sizes, InRange, in-range, of-range}
+use Rattle.laws.specs.Ranges.{Between, between-iff, le-of-sizes, in-range, of-range}
 use Rattle.laws.specs.Calendar.{before-2000, Real, date, day-count-lt, date-of-day-count, Counted, counted}
 
 -- ---- dates that exist
@@ -217,7 +215,8 @@ dated-refused : (a : Bool) (d : Date)
 dated-refused true d = (λ e. refl, λ e. refl)
 dated-refused false d = (λ e. cc, λ e. true-not-false (sym e))
 
-dated-on : (a : Bool) (d t : Date) → cond a (Dated.Refused Refusal.Year) (Dated.On d) ≡ Dated.On t → (a ≡ false) × (d ≡ t)
+dated-on : (a : Bool) (d t : Date) → cond a (Dated.Refused Refusal.Year) (Dated.On d) ≡ Dated.On t → (a ≡ false)
+    × (d ≡ t)
 dated-on true d t e = let z : true ≡ false = cc in true-not-false z
 dated-on false d t e = (refl, (cc))
 
@@ -238,9 +237,11 @@ date-of-day-of d n e =
     let g = day-of-given d n e in
     let r = real-date d (g .year) (g .day) in
     let k : n ≡ pos (dayCount d) -ℤ pos 10227 = sym (g .number) ∙ day-number-is d in
-    let i : numberRefused n ≡ false = number-accepted-iff n .1 (rw k (count-in-span (dayCount d) (real-count-lt d r))) in
+    let i : numberRefused n ≡ false = number-accepted-iff n .1 (rw k (count-in-span (dayCount d) (real-count-lt d r)))
+    in
     let c : dateOfCount (dayCount d) ≡ d =
-    ap (λ x. dateOfCount (dayCount x)) (real-date-is d r) ∙ date-of-day-count _ _ _ (r .real) ∙ sym (real-date-is d r) in
+    ap (λ x. dateOfCount (dayCount x)) (real-date-is d r) ∙ date-of-day-count _ _ _ (r .real)
+    ∙ sym (real-date-is d r) in
     rw (i, date-of-number-is n, k, number-count (dayCount d), c)
 
 -- the day number of a day number's date is the day number

@@ -1,4 +1,5 @@
--- Decimal digits: as many as a number has, put into a room from the last to the first, and that they are the rule's `decimal`.
+-- Decimal digits: as many as a number has, put into a room from the last to the first, and that they are the rule's
+-- `decimal`.
 use mathlib.Core.Path.{_≡_, refl, sym, ap, _∙_}
 use mathlib.Core.Bool.{Bool, true, false, cond}
 use mathlib.Core.List.{List, [], _∷_, _++_, append-assoc}
@@ -86,7 +87,8 @@ before-is (suc fuel) (suc k) n rest z h l =
   where
     go : (b : Bool) → ltb n 10 ≡ b
         → (0 < fuel → n / 10 ≤ fuel → n / 10 < limit k
-        → decimalBefore fuel (n / 10) ((nought + n % 10) ∷ rest) ≡ lastDigits (width k (n / 10)) (n / 10) ++ ((nought + n % 10) ∷ rest))
+        → decimalBefore fuel (n / 10) ((nought + n % 10) ∷ rest) ≡ lastDigits (width k (n / 10)) (n / 10)
+        ++ ((nought + n % 10) ∷ rest))
         → cond b ((nought + n) ∷ rest) (decimalBefore fuel (n / 10) ((nought + n % 10) ∷ rest))
         ≡ lastDigits (cond b 1 (1 + width k (n / 10))) n ++ rest
     go true e f = single n rest (ltb-true n 10 e)
@@ -102,7 +104,8 @@ append-none (a ∷ l) = ap (λ m. a ∷ m) (append-none l)
 pub digits-enough : (n : ℕ) → n < limit 18 → decimalBefore (suc n) n [] ≡ lastDigits (width 18 n) n
 digits-enough n h = before-is (suc n) 18 n [] (omega arith) (omega arith) h ∙ append-none (lastDigits (width 18 n) n)
 
-pub decimal-pos : (z : ℤ) → natAbs z < limit 18 → ltZ z (pos 0) ≡ false → decimal z ≡ lastDigits (width 18 (natAbs z)) (natAbs z)
+pub decimal-pos : (z : ℤ) → natAbs z < limit 18 → ltZ z (pos 0) ≡ false → decimal z
+    ≡ lastDigits (width 18 (natAbs z)) (natAbs z)
 unfolding decimal
 decimal-pos (pos n) h e = digits-enough n h
 decimal-pos (negsuc n) h e = true-not-false e
@@ -111,7 +114,8 @@ pub decimal-neg : (z : ℤ) → natAbs z < limit 18 → ltZ z (pos 0) ≡ true
     → decimal z ≡ hyphen ∷ lastDigits (width 18 (natAbs z)) (natAbs z)
 unfolding decimal
 decimal-neg (pos n) h e = absurd (omega (arith, ltb-true n 0 e))
-decimal-neg (negsuc n) h e = ap (λ l. hyphen ∷ l) (before-is (suc n) 18 (suc n) [] (omega arith) (omega arith) h ∙ append-none _)
+decimal-neg (negsuc n) h e = ap (λ l. hyphen ∷ l)
+    (before-is (suc n) 18 (suc n) [] (omega arith) (omega arith) h ∙ append-none _)
 
 -- ---- digits put into a room
 
@@ -150,7 +154,12 @@ written-split (suc k) n at l h =
     drop-cons (set l (at + k) v) (at + k) 0 (omega (arith, length-set l (at + k) v))
     ∙ rw (getD-set-same l (at + k) v 0 w, drop-set-lt (suc (at + k)) l (at + k) v (omega arith), q) in
     written-split k (n / 10) at (set l (at + k) v) m
-    ∙ rw (take-set-le at l (at + k) v (omega arith), d, append-assoc (lastDigits k (n / 10)) (v ∷ []) (drop (at + suc k) l))
+    ∙ rw (
+      take-set-le at l (at + k) v (omega arith),
+      d,
+      append-assoc (lastDigits k (n / 10)) (v ∷ [])
+          (drop (at + suc k) l),
+    )
 
 pub written-is : (k n at : ℕ) (l : List ℕ) → at + k ≤ length l → written k n at l ≡ sets l at (lastDigits k n)
 written-is k n at l h =

@@ -1,19 +1,18 @@
 -- How a date is found: the year by one quotient, the month by its row; and the date after a date.
 use mathlib.Core.Path.{_≡_, refl, sym, ap, _∙_}
 use mathlib.Core.Bool.{Bool, true, false, cond}
-use mathlib.Core.List.{List}
 use Prim.Native.Nat.{ℕ, zero, suc, _+_, _-_, _*_, _/_, _≤_, _<_}
 use native.Mathlib.Omega.{arith}
-use lib.Dec.{ltb, lit<}
-use lib.ListN.{length, take, getD}
+use lib.Dec.{ltb}
+use lib.ListN.{take, getD}
 use lib.IntN.{ℤ, pos, natAbs, _+ℤ_, _-ℤ_}
 use borrow.Author.Tests.{ltb-true, ltb-false}
 use Rattle.integers.specs.Difference.{eq-of-parts, add-is, sub-is}
 use Rattle.rules.specs.declared.Date.{Date}
 use Rattle.rules.specs.Calendar.{leap, months, sum, years, dayCount, dayNumber, fall, dateOfCount}
 use Rattle.laws.specs.Ranges.{InRange}
-use Rattle.laws.specs.Rows.{sum-take-suc, sum-take-le, fall-one}
-use Rattle.laws.specs.Calendar.{row, leap-lt, months-row, row-length, months-ge, years-before, year-days}
+use Rattle.laws.specs.Rows.{sum-take-suc, fall-one}
+use Rattle.laws.specs.Calendar.{row, leap-lt, months-row, years-before, year-days}
 use Rattle.laws.specs.Calendar.{Real, date, dayOfYear, day-count-is}
 use Rattle.laws.specs.DayNumbers.{day-number-is}
 
@@ -57,7 +56,8 @@ pub date-of-count-is : (n : ℕ) → n < 46752
     → dateOfCount n ≡ dateIn (1972 + yearAt n) (n - sum (take (yearAt n) years))
 unfolding dateOfCount dateIn
 date-of-count-is n h =
-    rw (fall-one years (yearAt n) (n - sum (take (yearAt n) years)) n (year-at-rest n h) (omega (arith, year-at-ge n h)))
+    rw (fall-one years (yearAt n) (n - sum (take (yearAt n) years)) n (year-at-rest n h)
+    (omega (arith, year-at-ge n h)))
 
 -- a row has twelve months
 pub row-whole : (l : ℕ) → l < 2 → sum (take 12 (row l)) ≡ sum (row l)
@@ -93,7 +93,8 @@ unfolding nextDate
 next-count y m d r = go (ltb d (getD (months y) (m - 1) 0)) (ltb m 12) refl refl
   where
     go : (a b : Bool) → ltb d (getD (months y) (m - 1) 0) ≡ a → ltb m 12 ≡ b
-        → dayCount (cond a (date y m (d + 1)) (cond b (date y (m + 1) 1) (date (y + 1) 1 1))) ≡ dayCount (date y m d) + 1
+        → dayCount (cond a (date y m (d + 1)) (cond b (date y (m + 1) 1) (date (y + 1) 1 1)))
+        ≡ dayCount (date y m d) + 1
     go true b p q = omega (arith, day-count-is y m d, day-count-is y m (d + 1))
     go false true p q =
         let l = ltb-false d (getD (months y) (m - 1) 0) p in

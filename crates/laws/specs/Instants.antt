@@ -1,15 +1,15 @@
--- UT and TT: of every accepted moment they lie within a Julian century of J2000.0, so that refusal 12 cannot come from a date.
-use mathlib.Core.Path.{_≡_, refl, sym, ap, _∙_, subst}
-use mathlib.Core.Bool.{Bool, true, false, cond}
+-- UT and TT: of every accepted moment they lie within a Julian century of J2000.0, so that refusal 12 cannot come from
+-- a date.
+use mathlib.Core.Path.{_≡_, refl}
+use mathlib.Core.Bool.{false}
 use mathlib.Core.Logic.{_⊎_, ⊎-elim}
-use Prim.Native.Nat.{ℕ, _+_, _-_, _*_, _≤_, _<_}
+use Prim.Native.Nat.{ℕ, _+_, _-_, _*_, _≤_}
 use native.Mathlib.Omega.{arith}
-use lib.IntN.{ℤ, pos, negℤ, natAbs, _+ℤ_, _-ℤ_, _*ℤ_}
-use Rattle.integers.specs.Difference.{posPart, negPart, IsDifference, add-is, sub-is, mul-is}
+use lib.IntN.{ℤ, pos, natAbs, _+ℤ_, _-ℤ_, _*ℤ_}
+use Rattle.integers.specs.Difference.{IsDifference, add-is, sub-is, mul-is}
 use Rattle.integers.specs.Size.{abs-is, abs-le}
 use Rattle.rules.specs.declared.Ut.{Ut}
 use Rattle.rules.specs.declared.Tt.{Tt}
-use Rattle.rules.specs.declared.Date.{Date}
 use Rattle.rules.specs.declared.Time.{Time}
 use Rattle.rules.specs.declared.Moment.{Moment}
 use Rattle.rules.specs.declared.Instants.{Instants}
@@ -18,10 +18,10 @@ use Rattle.rules.specs.Calendar.{dayCount, dayNumber, yearRefused, dayRefused}
 use Rattle.rules.specs.Dates.{taiMinusUtc, timeRefused, differenceRefused, msOfDay, utc, utOf, ttOf, instants}
 use Rattle.laws.specs.Units.{within-le}
 use Rattle.laws.specs.Ranges.{Between, between-iff, InRange, in-range}
-use Rattle.laws.specs.DayNumbers.{year-accepted-iff, day-accepted-iff, RealDate, real-date, day-number-is}
+use Rattle.laws.specs.DayNumbers.{RealDate, real-date, day-number-is}
 use Rattle.laws.specs.DayNumbers.{real-count-lt}
 use Rattle.laws.specs.Seconds.{tai-le}
-use Rattle.laws.specs.Dates.{TimeExists, time-accepted-iff, DifferenceSmall, difference-accepted-iff, tells}
+use Rattle.laws.specs.Dates.{TimeExists, time-accepted-iff, difference-accepted-iff, tells}
 
 -- ---- a time of day, in naturals
 

@@ -46,6 +46,7 @@ pub mod Place
 -- tests: computed at each number below a bound; of ranges
 pub mod Every
 pub mod Ranges
+pub mod Checks
 -- dates: spans laid end to end, the calendar
 pub mod Rows
 pub mod Calendar
@@ -56,8 +57,14 @@ pub mod Dates
 pub mod Instants
 pub mod Parts
 pub mod Bytes
+pub mod ByteByByte
 pub mod Records
+pub mod FileLength
+pub mod FileTests
 pub mod StarList
+pub mod ListWriting
+pub mod StarWidths
+pub mod RoundTrip
 -- lines of `times`
 pub mod Lines
 pub mod Decimal

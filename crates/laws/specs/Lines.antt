@@ -2,18 +2,17 @@
 use mathlib.Core.Path.{_≡_, refl, sym, ap, _∙_}
 use mathlib.Core.Bool.{Bool, true, false, cond, _&&_}
 use mathlib.Core.List.{List, [], _∷_}
-use Prim.Native.Nat.{ℕ, zero, suc, _+_, _-_, _*_, _^_, _≤_, _<_, min}
+use Prim.Native.Nat.{ℕ, zero, suc, _+_, _-_, _*_, _^_, _≤_, _<_}
 use native.Mathlib.Numerals.{add-one}
 use native.Mathlib.Omega.{arith}
 use lib.Dec.{eqb, leb, ltb, leb→le}
-use lib.ListN.{length, take, drop, getD, replicate, length-take, length-drop, length-replicate}
+use lib.ListN.{length, take, drop, getD, length-take, length-drop, length-replicate}
 use lib.Seq.{drop-cons, take-all}
-use lib.IntN.{ℤ, pos}
 use borrow.Author.Tests.{leb-true, le-leb, lt-leb, ltb-true, ltb-false}
 use Rattle.rules.specs.declared.Line.{Line}
 use Rattle.rules.specs.Lines.{nought, hyphen, isDigit, digits, form, alike, ofForm, negative, unsigned, ofDigits}
 use Rattle.rules.specs.Lines.{ofNumber, spelled, lineOf}
-use Rattle.laws.specs.Every.{every, every-at}
+use Rattle.laws.specs.Every.{every-at}
 use Rattle.laws.specs.Ranges.{both-true, true-not-false}
 
 -- ---- a form and bytes, one by one
@@ -46,7 +45,8 @@ digit-at (suc n) zero h = refl
 digit-at (suc n) (suc i) h = digit-at n i (omega arith)
 
 pub digits-step : (bs : List ℕ) (n i : ℕ) → i < n → i < length bs
-    → ofForm (drop i (digits n)) (drop i bs) ≡ isDigit (getD bs i 0) && ofForm (drop (i + 1) (digits n)) (drop (i + 1) bs)
+    → ofForm (drop i (digits n)) (drop i bs) ≡ isDigit (getD bs i 0) && ofForm (drop (i + 1) (digits n))
+    (drop (i + 1) bs)
 unfolding alike isDigit
 digits-step bs n i h k =
     form-step (digits n) bs i (omega (arith, length-replicate n nought)) k ∙ rw (digit-at n i h)

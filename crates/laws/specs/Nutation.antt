@@ -1,5 +1,5 @@
 -- Nutation: the limits of its two sums and their rounding, for any table of terms and for the ten of 01.
-use mathlib.Core.Path.{_≡_, ap, sym, _∙_}
+use mathlib.Core.Path.{_≡_, refl, ap, sym, _∙_}
 use mathlib.Core.List.{List, [], _∷_, map}
 use Prim.Native.Nat.{ℕ, zero, suc, _+_, _*_, _≤_, _<_, _^_}
 use native.Mathlib.Nat.{mul-le-mul}
@@ -10,10 +10,12 @@ use lib.IntN.{ℤ, pos, natAbs, _+ℤ_, _-ℤ_, _*ℤ_, +ℤ-comm, +ℤ-assoc}
 use Rattle.integers.specs.Size.{abs-add, abs-mul}
 use Rattle.rules.specs.declared.Tt.{Tt}
 use Rattle.rules.specs.declared.Term.{Term}
-use Rattle.rules.specs.Units.{unit}
-use Rattle.rules.specs.Rounding.{rnd}
-use Rattle.rules.specs.Polynomials.{polynomial, arguments}
-use Rattle.rules.specs.Circle.{pair}
+use Rattle.rules.specs.Units.{unit, −_}
+use Rattle.rules.specs.Rounding.{rnd, rndSize, modulo}
+use Rattle.rules.specs.Polynomials.{step, polynomial, arguments}
+use Rattle.rules.specs.Length.{rootFrom, root, square, pairSquares, partTo, pairToLength}
+use Rattle.rules.specs.Circle.{radianParts, squareParts, stage, stages, rawSine, rawCosine, pairOfParts, pairToHalf}
+use Rattle.rules.specs.Circle.{exchangedPair, pairToQuarter, inQuarter, folded, pair}
 use Rattle.rules.specs.Nutation.{terms, termAngle, longitudeAmplitude, obliquityAmplitude, longitudeProduct}
 use Rattle.rules.specs.Nutation.{obliquityProduct, total, nutationBy, nutation}
 use Rattle.laws.specs.Rounding.{rnd-near, rnd-under}
@@ -108,3 +110,18 @@ ten-terms t h = record {
   longitude-le = longitude-limits terms t h (lit≤ tt) .result-le;
   obliquity-le = obliquity-limits terms t h (lit≤ tt) .result-le;
 }
+
+-- ---- rounded once: at J2000 the products rounded each apart would give another Δε
+
+abbrev atJ2000 : Tt
+atJ2000 = record { 0 = pos 0 }
+
+pub record RoundedOnce : Type 0 where
+  pub once : nutation atJ2000 .obliquity ≡ − 5771222
+  pub each-apart : total (map (λ m. rnd (obliquityProduct atJ2000 m) unit) terms) ≡ − 5771223
+
+pub rounded-once : RoundedOnce
+unfolding rnd rndSize modulo step polynomial arguments rootFrom root square pairSquares partTo pairToLength radianParts
+    squareParts stage stages rawSine rawCosine pairOfParts pairToHalf exchangedPair pairToQuarter inQuarter folded pair
+    termAngle longitudeProduct obliquityProduct total nutationBy nutation
+rounded-once = record { once = refl; each-apart = refl }

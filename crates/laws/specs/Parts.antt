@@ -1,7 +1,5 @@
 -- Dates, times and instants made of plain numbers, for the contracts of inner functions.
 use lib.IntN.{ℤ, pos, _+ℤ_, _-ℤ_, _*ℤ_}
-use Rattle.rules.specs.declared.Ut.{Ut}
-use Rattle.rules.specs.declared.Tt.{Tt}
 use Rattle.rules.specs.declared.Date.{Date}
 use Rattle.rules.specs.declared.Time.{Time}
 use Rattle.rules.specs.declared.Instants.{Instants}

@@ -1,8 +1,8 @@
 -- The steps of a place: how far the angles reach, and that every direction on the way is accepted, so that no turn is
 -- refused and no length is nought.
 use mathlib.Core.Path.{_≡_, refl, subst}
-use mathlib.Core.Bool.{Bool, true, false, not, _&&_}
-use Prim.Native.Nat.{_-_, _*_, _≤_}
+use mathlib.Core.Bool.{Bool, true, false, not, cond, _&&_}
+use Prim.Native.Nat.{ℕ, _-_, _*_, _≤_}
 use native.Mathlib.Nat.{mul-le-mul}
 use native.Mathlib.Omega.{arith}
 use lib.Dec.{T, lit<, lit≤}
@@ -10,6 +10,12 @@ use lib.IntN.{ℤ, pos, negsuc, negℤ, natAbs, _*ℤ_}
 use Rattle.integers.specs.Size.{abs-add, abs-mul}
 use Rattle.rules.specs.declared.Tt.{Tt}
 use Rattle.rules.specs.declared.Direction.{Direction}
+use Rattle.rules.specs.declared.Moment.{Moment}
+use Rattle.rules.specs.declared.Site.{Site}
+use Rattle.rules.specs.declared.Place.{Place}
+use Rattle.rules.specs.declared.Instants.{Instants}
+use Rattle.rules.specs.declared.Placed.{Placed}
+use Rattle.rules.specs.declared.Refusal.{Refusal}
 use Rattle.rules.specs.declared.Night.{Night}
 use Rattle.rules.specs.declared.Star.{Star}
 use Rattle.rules.specs.Units.{circle, quarter, year, unit, +_, between, within}
@@ -17,7 +23,11 @@ use Rattle.rules.specs.Rounding.{rnd, remainder}
 use Rattle.rules.specs.Length.{square, squares}
 use Rattle.rules.specs.Circle.{pair}
 use Rattle.rules.specs.Turning.{Accepted}
-use Rattle.rules.specs.Place.{mostMotion, starRefused, moved, directed, precessed, aberrated, nutated, apparent, overhead}
+use Rattle.rules.specs.Place.{mostMotion, starRefused, moved, directed, precessed, aberrated, nutated, apparent, overhead, readings}
+use Rattle.rules.specs.Place.{placeIn, placeAt, place}
+use Rattle.rules.specs.Dates.{instants}
+use Rattle.rules.specs.Refusals.{number}
+use Rattle.rules.specs.Night.{siteRefused, night}
 use Rattle.laws.specs.Units.{between-parts, within-le}
 use Rattle.laws.specs.Rounding.{rnd-under}
 use Rattle.laws.specs.Instant.{InRange}
@@ -25,6 +35,9 @@ use Rattle.laws.specs.Angles.{pair-length}
 use Rattle.laws.specs.Turning.{turnBy-accepted}
 use Rattle.laws.specs.Aberration.{plus-accepted}
 use Rattle.laws.specs.Night.{NightFits}
+use Rattle.laws.specs.Near.{UpTo}
+use Rattle.laws.specs.ReadingRange.{reading-range}
+use Rattle.laws.specs.Heights.{height-le}
 
 -- ---- a star that is not refused
 
@@ -116,3 +129,53 @@ module _ (n : Night) (h : NightFits n) where
   apparent-accepted s =
       nutated-accepted _ (aberrated-accepted _ (precessed-accepted _ (directed-accepted
       (moved (n .tt) (s .ra) (s .«ra_motion»)) (moved (n .tt) (s .declination) (s .«declination_motion»)))))
+
+-- ---- what is answered
+
+-- right ascension and azimuth from 0 to C − 1, declination and altitude within a quarter
+pub record PlaceRanges (p : Place) : Type 0 where
+  pub ra : UpTo (p .ra) (circle - 1)
+  pub declination : natAbs (p .declination) ≤ quarter
+  pub azimuth : UpTo (p .azimuth) (circle - 1)
+  pub altitude : natAbs (p .altitude) ≤ quarter
+
+pub placeIn-ranges : (n : Night) (s : Star) → PlaceRanges (placeIn n s)
+unfolding placeIn readings
+placeIn-ranges n s =
+    let v = apparent n s in
+    let w = overhead n v in
+    record {
+      ra = reading-range (v .x) (v .y);
+      declination = height-le v;
+      azimuth = reading-range (negℤ (w .x)) (w .y);
+      altitude = height-le w;
+    }
+
+-- an answer is none of the refusals
+clash : {A : Type 0} (r : Refusal) (p : Place) → Placed.Refused r ≡ Placed.At p → A
+clash r p e = let z : _≡_ {A = ℕ} 0 1 = cc in absurd (omega arith)
+
+-- what holds of a place in any night, and of what is refused, holds of every answer
+by-answer : (P : Placed → Type 0) (star : Star) (site : Site)
+    → ((r : Refusal) → P (Placed.Refused r)) → ((n : Night) → P (Placed.At (placeIn n star)))
+    → (i : Instants) → P (placeAt i star site)
+unfolding placeAt
+by-answer P star site f g (Instants.Refused r) = f r
+by-answer P star site f g (Instants.At u t) = by (starRefused star) (siteRefused site)
+  where
+    by : (a b : Bool)
+        → P (cond a (Placed.Refused Refusal.Star)
+        (cond b (Placed.Refused Refusal.Site) (Placed.At (placeIn (night u t site) star))))
+    by true b = f Refusal.Star
+    by false true = f Refusal.Site
+    by false false = g (night u t site)
+
+-- of every place that is answered
+pub place-ranges : (m : Moment) (star : Star) (site : Site) (p : Place) → place m star site ≡ Placed.At p → PlaceRanges p
+unfolding place
+place-ranges m star site p e =
+    by-answer (λ a. a ≡ Placed.At p → PlaceRanges p) star site (λ r c. clash r p c)
+    (λ n c. subst PlaceRanges (same (placeIn n star) p c) (placeIn-ranges n star)) (instants m) e
+  where
+    same : (a b : Place) → Placed.At a ≡ Placed.At b → a ≡ b
+    same a b c = cc

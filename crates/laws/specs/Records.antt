@@ -116,7 +116,8 @@ accepted-snoc (t ∷ ss) s = omega (arith, accepted-snoc ss s)
 pub any-counted : (ss : List Star) → not (eqb (acceptedIn ss) (length ss)) ≡ anyRefused ss
 unfolding acceptedIn anyRefused
 any-counted [] = refl
-any-counted (s ∷ ss) = by (starRefused s) (eqb (acceptedIn ss) (length ss)) refl ∙ ap (λ t. starRefused s || t) (any-counted ss)
+any-counted (s ∷ ss) = by (starRefused s) (eqb (acceptedIn ss) (length ss)) refl
+    ∙ ap (λ t. starRefused s || t) (any-counted ss)
   where
     by : (t e : Bool) → eqb (acceptedIn ss) (length ss) ≡ e
         → not (eqb (cond t 0 1 + acceptedIn ss) (suc (length ss))) ≡ t || not (eqb (acceptedIn ss) (length ss))
@@ -125,5 +126,6 @@ any-counted (s ∷ ss) = by (starRefused s) (eqb (acceptedIn ss) (length ss)) re
         let same = eqb-true (acceptedIn ss) (length ss) k in
         ap not (eq-eqb (1 + acceptedIn ss) (suc (length ss)) (omega (arith, same))) ∙ ap not (sym k)
     by false false k =
-        ap not (ne-eqb (1 + acceptedIn ss) (suc (length ss)) (λ h. eqb-false (acceptedIn ss) (length ss) k (omega (arith, h))))
+        ap not (ne-eqb (1 + acceptedIn ss) (suc (length ss))
+        (λ h. eqb-false (acceptedIn ss) (length ss) k (omega (arith, h))))
         ∙ ap not (sym k)

@@ -1,5 +1,5 @@
 -- Spans laid end to end: a span and a day in it is one number, and back. Years in the span of dates, months in a year.
-use mathlib.Core.Path.{_≡_, refl, sym, ap, _∙_}
+use mathlib.Core.Path.{_≡_, refl}
 use mathlib.Core.Bool.{Bool, true, false, cond}
 use mathlib.Core.List.{List, [], _∷_}
 use Prim.Native.Nat.{ℕ, zero, suc, _+_, _-_, _≤_, _<_}
@@ -56,7 +56,8 @@ falls (m ∷ ms) n h = go (ltb n m) refl (λ l. falls ms (n - m) l)
   where
     go : (b : Bool) → ltb n m ≡ b → (n - m < sum ms → Falls ms (n - m) (fall ms (n - m)))
         → Falls (m ∷ ms) n
-        (cond b (record { span = 0; day = n }) (record { span = suc (fall ms (n - m) .span); day = fall ms (n - m) .day }))
+        (cond b (record { span = 0; day = n }) (record
+        { span = suc (fall ms (n - m) .span); day = fall ms (n - m) .day }))
     go true e f = record { span-lt = omega arith; day-lt = ltb-true n m e; whole = omega arith }
     go false e f =
         let l = ltb-false n m e in

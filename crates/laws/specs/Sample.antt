@@ -29,11 +29,13 @@ sampleOutput =
     100 ∷ 97 ∷ 121 ∷ 32 ∷ 117 ∷ 116 ∷ 32 ∷ 116 ∷ 116 ∷ 10
     ∷ 48 ∷ 32 ∷ 48 ∷ 32 ∷ 54 ∷ 52 ∷ 49 ∷ 56 ∷ 52 ∷ 10
     ∷ 54 ∷ 50 ∷ 48 ∷ 57 ∷ 32
-    ∷ 53 ∷ 51 ∷ 54 ∷ 53 ∷ 48 ∷ 48 ∷ 56 ∷ 48 ∷ 48 ∷ 49 ∷ 48 ∷ 48 ∷ 32 ∷ 53 ∷ 51 ∷ 54 ∷ 53 ∷ 48 ∷ 48 ∷ 56 ∷ 54 ∷ 56 ∷ 54 ∷ 56 ∷ 52 ∷ 10
+    ∷ 53 ∷ 51 ∷ 54 ∷ 53 ∷ 48 ∷ 48 ∷ 56 ∷ 48 ∷ 48 ∷ 49 ∷ 48 ∷ 48 ∷ 32 ∷ 53 ∷ 51 ∷ 54 ∷ 53 ∷ 48 ∷ 48 ∷ 56 ∷ 54 ∷ 56 ∷ 54
+    ∷ 56 ∷ 52 ∷ 10
     ∷ 114 ∷ 101 ∷ 102 ∷ 117 ∷ 115 ∷ 101 ∷ 100 ∷ 32 ∷ 51 ∷ 10 ∷ []
 
 pub sample : times sampleInput ≡ sampleOutput
-unfolding same between within number leap months sum upFrom years daysBefore2000 dayCount dayNumber yearRefused monthDays
+unfolding same between within number leap months sum upFrom years daysBefore2000 dayCount dayNumber yearRefused
+    monthDays
     dayRefused taiMinusUtc beforeStep lastSecond timeRefused msOfDay utc utOf ttOf differenceRefused instants isDigit
     alike ofForm negative unsigned ofDigits ofNumber spelled field signed moment lineOf decimalBefore decimal
     refusedLine threeNumbers answerLine printed before linesOf ended times

@@ -1,23 +1,23 @@
 -- Added seconds: TAI−UTC by the day numbers of the steps, and from a day to the next.
-use mathlib.Core.Path.{_≡_, refl, sym, ap, _∙_, subst}
+use mathlib.Core.Path.{_≡_, refl, sym, _∙_, subst}
 use mathlib.Core.Bool.{Bool, true, false, cond, not, _&&_, _||_}
 use mathlib.Core.Logic.{_↔_, _⊎_, inl, inr, ⊎-elim}
-use mathlib.Core.List.{List, [], _∷_, _++_, map}
-use Prim.Native.Nat.{ℕ, zero, suc, _+_, _-_, _*_, _≤_, _<_}
+use mathlib.Core.List.{List, [], _∷_, map}
+use Prim.Native.Nat.{ℕ, _+_, _-_, _≤_, _<_}
 use native.Mathlib.Omega.{arith}
 use native.Mathlib.Numerals.{add-one}
-use lib.Dec.{T, eqb, leb, leb→le, T-not}
+use lib.Dec.{T, eqb, leb, leb→le}
 use lib.ListN.{length, drop, getD}
 use lib.Seq.{drop-cons}
-use lib.IntN.{ℤ, pos, negsuc, natAbs, _+ℤ_, _-ℤ_}
-use lib.Signed.{ltZ, leZ}
+use lib.IntN.{ℤ, pos, natAbs, _+ℤ_}
+use lib.Signed.{leZ}
 use mir.Facts.{and-yes}
 use borrow.Author.Tests.{eq-eqb, ne-eqb}
 use Rattle.integers.specs.Difference.{posPart, negPart, add-is, eq-of-parts, parts-of-eq, leZ-true, leZ-false}
 use Rattle.rules.specs.Units.{same, −_, +_}
 use Rattle.rules.specs.Calendar.{leap, months, sum, upFrom, years, daysBefore2000, dayCount, dayNumber}
 use Rattle.rules.specs.Dates.{steps, taiMinusUtc, beforeStep}
-use Rattle.laws.specs.Every.{every, every-at}
+use Rattle.laws.specs.Every.{every-at}
 use Rattle.laws.specs.Ranges.{yes, true-not-false, le-of-sizes, same-iff}
 
 -- ---- the steps as day numbers

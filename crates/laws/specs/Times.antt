@@ -52,7 +52,8 @@ three-numbers-are a b c = append-assoc (decimal a) (space ∷ decimal b) (space 
 
 -- three rows of bytes with a space between, put one after another
 pub three-rows : (l x y z : List ℕ) (a b : ℕ) → a ≡ length x → b ≡ (a + 1) + length y
-    → sets (set (sets (set (sets l 0 x) a space) (a + 1) y) b space) (b + 1) z ≡ sets l 0 (x ++ (space ∷ (y ++ (space ∷ z))))
+    → sets (set (sets (set (sets l 0 x) a space) (a + 1) y) b space) (b + 1) z
+    ≡ sets l 0 (x ++ (space ∷ (y ++ (space ∷ z))))
 three-rows l x y z a b e f =
     let p : 0 + length x ≡ a = omega arith in
     let q : suc a + length y ≡ b = omega arith in
@@ -62,7 +63,8 @@ three-rows l x y z a b e f =
 -- ---- a date that is refused refuses its moment
 
 answered : (a b c d : Bool) (n : ℤ) (u : Ut) (t : Tt) (r : Refusal)
-    → cond a (Numbered.Refused Refusal.Year) (cond b (Numbered.Refused Refusal.Day) (Numbered.Day n)) ≡ Numbered.Refused r
+    → cond a (Numbered.Refused Refusal.Year) (cond b (Numbered.Refused Refusal.Day) (Numbered.Day n))
+    ≡ Numbered.Refused r
     → cond a (Instants.Refused Refusal.Year) (cond b (Instants.Refused Refusal.Day)
     (cond c (Instants.Refused Refusal.Time) (cond d (Instants.Refused Refusal.Difference) (Instants.At u t))))
     ≡ Instants.Refused r
@@ -70,10 +72,12 @@ answered true b c d n u t r e = cc
 answered false true c d n u t r e = cc
 answered false false c d n u t r e = let z : true ≡ false = cc in true-not-false z
 
-pub instants-of-refused : (m : Moment) (r : Refusal) → dayOf (m .date) ≡ Numbered.Refused r → instants m ≡ Instants.Refused r
+pub instants-of-refused : (m : Moment) (r : Refusal) → dayOf (m .date) ≡ Numbered.Refused r → instants m
+    ≡ Instants.Refused r
 unfolding dayOf instants
 instants-of-refused m r e =
-    answered (yearRefused (m .date)) (dayRefused (m .date)) (timeRefused (dayNumber (m .date)) (m .time)) (differenceRefused m)
+    answered (yearRefused (m .date)) (dayRefused (m .date)) (timeRefused (dayNumber (m .date)) (m .time))
+    (differenceRefused m)
     (dayNumber (m .date)) (utOf m) (ttOf m) r e
 
 -- ---- a room of 64 bytes is enough

@@ -1,7 +1,7 @@
 // Whole numbers in decimal, put into lent memory.
 ghost use mathlib.Core.Path.{_≡_};
-ghost use Prim.Native.Nat.{ℕ, _≤_, _+_, _%_};
-ghost use lib.IntN.{ℤ, natAbs};
+ghost use Prim.Native.Nat.{_≤_, _+_, _%_};
+ghost use lib.IntN.{natAbs};
 ghost use lib.ListN.{length};
 ghost use lib.Seq.{sets};
 ghost use Rattle.rules.specs.Times as rule;

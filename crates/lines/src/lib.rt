@@ -2,8 +2,7 @@
 ghost use mathlib.Core.Path.{_≡_};
 ghost use lib.ListN.{length};
 ghost use Rattle.rules.specs.Lines as rule;
-ghost use Rattle.rules.specs.Times.{printed, overlaid};
-ghost use Rattle.lines.specs.Room.{printedIn};
+ghost use Rattle.lines.specs.Printed.{printedFor, printedIn, overlaidFor, overlaidIn};
 use crate::fields::difference;
 use crate::fields::field;
 use crate::fields::of_form;
@@ -54,11 +53,12 @@ pub fn line_of(line: &[u8]) -> Line
 // What `times` prints for a line, without its end.
 //
 // Given: any bytes, and room for the answer.
-// Returned: the length of the answer, which stands at the front of the room; the rest of the room stays.
+// Returned: the length of the answer, which stands at the front of the room; the rest of the room
+// stays.
 // Rule: 01, "Dates".
 pub fn print_line(line: &[u8], out: &mut [u8; 64]) -> usize
-    ensures answer { λ r. ⌜ r ≡ length (printed (rule.lineOf (now (line .entry)))) ⌝ }
-    ensures kept { λ _. ⌜ now (out .exit) ≡ overlaid (printed (rule.lineOf (now (line .entry)))) (now (out .entry)) ⌝ }
+    ensures answer { λ r. ⌜ r ≡ length (printedFor (now (line .entry))) ⌝ }
+    ensures kept { λ _. ⌜ now (out .exit) ≡ overlaidFor (now (out .entry)) (now (line .entry)) ⌝ }
 {
     put_line(line_of(line), out)
 }
@@ -70,8 +70,8 @@ pub fn print_line(line: &[u8], out: &mut [u8; 64]) -> usize
 // bytes, and then it stays.
 // Rule: 01, "Dates".
 pub fn print_into(line: &[u8], out: &mut [u8]) -> usize
-    ensures answer { λ r. ⌜ r ≡ length (printedIn (now (out .entry)) (rule.lineOf (now (line .entry)))) ⌝ }
-    ensures kept { λ _. ⌜ now (out .exit) ≡ overlaid (printedIn (now (out .entry)) (rule.lineOf (now (line .entry)))) (now (out .entry)) ⌝ }
+    ensures answer { λ r. ⌜ r ≡ length (printedIn (now (out .entry)) (now (line .entry))) ⌝ }
+    ensures kept { λ _. ⌜ now (out .exit) ≡ overlaidIn (now (out .entry)) (now (line .entry)) ⌝ }
 {
     if out.len() < 64 {
         return 0;

@@ -1,14 +1,10 @@
 // What `times` prints for a line, put at the front of lent memory.
 ghost use mathlib.Core.Path.{_≡_};
-ghost use Prim.Native.Nat.{ℕ, _≤_};
-ghost use mathlib.Core.List.{_++_};
-ghost use lib.IntN.{ℤ};
+ghost use Prim.Native.Nat.{_≤_};
 ghost use lib.ListN.{length};
 ghost use lib.Seq.{sets};
-ghost use Rattle.rules.specs.Calendar.{dayNumber};
-ghost use Rattle.rules.specs.Dates as dates;
 ghost use Rattle.rules.specs.Times as rule;
-ghost use Rattle.laws.specs.Times.{refusedText};
+ghost use Rattle.lines.specs.Printed.{answerTo, refusedTo};
 use crate::decimals::put;
 use rules::Instants;
 use rules::Line;
@@ -18,8 +14,8 @@ use rules::Numbered;
 // `refused ` and the number.
 pub fn put_refused(number: i64, out: &mut [u8]) -> usize
     requires { ⌜ 64 ≤ length (now out) ⌝ }
-    ensures { λ r. ⌜ r ≡ length (refusedText ++ rule.decimal number) ⌝ }
-    ensures { λ _. ⌜ now (out .exit) ≡ sets (now (out .entry)) 0 (refusedText ++ rule.decimal number) ⌝ }
+    ensures { λ r. ⌜ r ≡ length (refusedTo number) ⌝ }
+    ensures { λ _. ⌜ now (out .exit) ≡ sets (now (out .entry)) 0 (refusedTo number) ⌝ }
 {
     out[0] = 114;
     out[1] = 101;
@@ -60,8 +56,8 @@ pub fn put_instants(day: i64, instants: Instants, out: &mut [u8]) -> usize
 // The answer of a moment.
 pub fn put_moment(moment: Moment, out: &mut [u8]) -> usize
     requires { ⌜ 64 ≤ length (now out) ⌝ }
-    ensures { λ r. ⌜ r ≡ length (rule.answerLine (dayNumber (moment .date)) (dates.instants moment)) ⌝ }
-    ensures { λ _. ⌜ now (out .exit) ≡ sets (now (out .entry)) 0 (rule.answerLine (dayNumber (moment .date)) (dates.instants moment)) ⌝ }
+    ensures { λ r. ⌜ r ≡ length (answerTo moment) ⌝ }
+    ensures { λ _. ⌜ now (out .exit) ≡ sets (now (out .entry)) 0 (answerTo moment) ⌝ }
 {
     match calendar::day_of(moment.date) {
         Numbered::Day(n) => put_instants(n, calendar::instants(moment), out),

@@ -1,24 +1,26 @@
 -- Bytes put into room: how long it stays, two puts that follow each other, and a head put before what follows it.
-use mathlib.Core.Path.{_≡_, refl, sym, _∙_, ap}
-use mathlib.Core.List.{List, [], _∷_, _++_, append-assoc, append-nil}
+use mathlib.Core.Path.{_≡_, sym, _∙_, ap}
+use mathlib.Core.List.{List, [], _++_, append-assoc, append-nil}
 use Prim.Native.Nat.{ℕ, suc, _+_, _-_, _≤_, _<_}
 use native.Mathlib.Omega.{arith}
 use lib.ListN.{length, take, drop, set, length-append, length-drop, take-append-drop}
 use lib.Seq.{length-take-le, take-at, take-length, drop-at, drop-append-add, drop-drop, paste, paste-suc, length-paste}
 use lib.IntN.{ℤ}
 use Rattle.rules.specs.Rounding.{modulo}
-use Rattle.laws.specs.Bytes.{lowBytes, above, low-length, low-nth}
+use Rattle.laws.specs.ByteByByte.{lowBytes, above, low-length, low-nth}
 
 -- bytes that replace those from a place on
 unfoldable pub put : List ℕ → ℕ → List ℕ → List ℕ
 put room at new = take at room ++ new ++ drop (at + length new) room
 
-head-length : (room : List ℕ) (at : ℕ) (u : List ℕ) → at + length u ≤ length room → length (take at room ++ u) ≡ at + length u
+head-length : (room : List ℕ) (at : ℕ) (u : List ℕ) → at + length u ≤ length room
+    → length (take at room ++ u) ≡ at + length u
 head-length room at u l =
     let h : at ≤ length room = omega (arith, l) in
     length-append (take at room) u ∙ ap (λ k. k + length u) (length-take-le at room h)
 
-pub put-length : (room : List ℕ) (at : ℕ) (u : List ℕ) → at + length u ≤ length room → length (put room at u) ≡ length room
+pub put-length : (room : List ℕ) (at : ℕ) (u : List ℕ) → at + length u ≤ length room
+    → length (put room at u) ≡ length room
 unfolding put
 put-length room at u l =
     let e : (at + length u) + (length room - (at + length u)) ≡ length room = omega (arith, l) in
@@ -34,7 +36,8 @@ put-none room at =
     ∙ ap (λ k. take at room ++ [] ++ drop k room) e
 
 -- what follows
-pub put-put : (room : List ℕ) (at next : ℕ) (u v : List ℕ) → at + length u ≡ next → at + (length u + length v) ≤ length room
+pub put-put : (room : List ℕ) (at next : ℕ) (u v : List ℕ) → at + length u ≡ next
+    → at + (length u + length v) ≤ length room
     → put (put room at u) next v ≡ put room at (u ++ v)
 unfolding put
 put-put room at next u v e l =
@@ -87,7 +90,8 @@ stored-next room cur at k width z b e f l h =
     ∙ paste-suc room at (lowBytes width z) k 0 (omega (arith, l, h)) (omega (arith, l, low-length width z))
     ∙ ap (λ j. paste room at (lowBytes width z) j) more
 
-pub stored-all : (room : List ℕ) (at width : ℕ) (z : ℤ) → paste room at (lowBytes width z) width ≡ put room at (lowBytes width z)
+pub stored-all : (room : List ℕ) (at width : ℕ) (z : ℤ)
+    → paste room at (lowBytes width z) width ≡ put room at (lowBytes width z)
 unfolding put
 stored-all room at width z =
     ap (λ r. take at room ++ r ++ drop (at + width) room)

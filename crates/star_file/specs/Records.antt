@@ -1,6 +1,6 @@
 -- Records as they are written, number by number: how long they are, and that accepted stars are written so.
 use mathlib.Core.Path.{_≡_, refl, sym, _∙_, ap}
-use mathlib.Core.List.{List, [], _∷_, _++_, foldr, append-assoc, append-nil}
+use mathlib.Core.List.{List, [], _∷_, _++_, append-assoc, append-nil}
 use Prim.Native.Nat.{ℕ, _+_, _*_, _≤_}
 use native.Mathlib.Omega.{arith}
 use lib.ListN.{length, getD, drop, length-append}
@@ -8,8 +8,9 @@ use lib.Seq.{getD-drop}
 use lib.IntN.{ℤ, pos}
 use Rattle.rules.specs.declared.Star.{Star}
 use Rattle.rules.specs.StarList.{fileLength, recordOf, fileOf, starFrom}
-use Rattle.laws.specs.Bytes.{lowBytes, low-bytes, low-length}
-use Rattle.laws.specs.StarList.{StarFits, AllFit, records, headOf, file-is, file-length, records-length}
+use Rattle.laws.specs.ByteByByte.{lowBytes, low-bytes, low-length}
+use Rattle.laws.specs.StarWidths.{StarFits, AllFit}
+use Rattle.laws.specs.FileLength.{records, headOf, file-is, file-length, records-length}
 use Rattle.stars.specs.Numbers.{starOf}
 use Rattle.star_file.specs.Puts.{put, put-before, put-first}
 
@@ -53,7 +54,8 @@ low-records-length (s ∷ ss) =
 pub low-snoc : (ss : List Star) (s : Star) → lowRecords ss ++ lowRecord s ≡ lowRecords (ss ++ (s ∷ []))
 unfolding lowRecords
 low-snoc [] s = sym (append-nil (lowRecord s))
-low-snoc (t ∷ ss) s = append-assoc (lowRecord t) (lowRecords ss) (lowRecord s) ∙ ap (λ r. lowRecord t ++ r) (low-snoc ss s)
+low-snoc (t ∷ ss) s = append-assoc (lowRecord t) (lowRecords ss) (lowRecord s)
+    ∙ ap (λ r. lowRecord t ++ r) (low-snoc ss s)
 
 -- a star whose numbers are of their widths is written as its record
 pub low-record : (s : Star) → StarFits s → lowRecord s ≡ recordOf s

@@ -7,7 +7,7 @@ ghost use lib.Signed.{mag};
 ghost use Prim.Native.Nat.{_+_, _-_, _*_, _<_, _≤_, _^_};
 ghost use Rattle.rules.specs.Rounding.{modulo};
 ghost use Rattle.rules.specs.Bytes.{unsignedAt, signedAt};
-ghost use Rattle.laws.specs.Bytes.{signOf, below, lowBytes};
+ghost use Rattle.laws.specs.ByteByByte.{signOf, below, lowBytes};
 ghost use Rattle.star_file.specs.Puts.{put};
 
 // -1 where a last byte carries a minus, else 0.

@@ -16,8 +16,8 @@ ghost use Prim.Native.Nat.{_+_, _*_, _<_, _≤_, _^_};
 ghost use Rattle.rules.specs.Place.{starRefused};
 ghost use Rattle.rules.specs.StarList.{recordOf, anyRefused, leaving, starsFrom};
 ghost use Rattle.rules.specs.StarList.{numbersWritten, roomAfterNumbers};
-ghost use Rattle.laws.specs.Bytes.{lowBytes};
-ghost use Rattle.laws.specs.StarList.{headOf};
+ghost use Rattle.laws.specs.ByteByByte.{lowBytes};
+ghost use Rattle.laws.specs.FileLength.{headOf};
 ghost use Rattle.stars.specs.Numbers.{starOf};
 ghost use Rattle.star_file.specs.Plans.{Ready, writePlan};
 ghost use Rattle.star_file.specs.Puts.{put};
@@ -173,10 +173,10 @@ fn put_stars(room: &mut [u8], numbers: &[i64], count: usize)
 
 // A list file of a row of numbers, four to a star, written at once.
 //
-// Given: numbers, right ascension and declination in µas, their motions in µas a year, of each star;
-// room, any.
-// Returned: the file's length, and the file at the start of room; the bytes past it stay. Or refusal
-// 5 or 11, and all bytes stay; 11 also where the last star has not all its numbers.
+// Given: numbers, right ascension and declination in µas, their motions in µas a year, of each
+// star; room, any.
+// Returned: the file's length, and the file at the start of room; the bytes past it stay. Or
+// refusal 5 or 11, and all bytes stay; 11 also where the last star has not all its numbers.
 // Rule: 01, "Lists" and "Refusal numbers".
 pub fn list_write(numbers: &[i64], room: &mut [u8]) -> Listed
     ensures { λ r. ⌜ (r ≡ numbersWritten (now (numbers .entry)) (now (room .entry)))

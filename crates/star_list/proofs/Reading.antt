@@ -1,19 +1,20 @@
 -- What the walk of `read_list` needs of its plan: it stays within the file and the entries, what is read next, and what
 -- the walk leaves.
 use mathlib.Core.Path.{_≡_, refl, sym, _∙_, ap, subst}
-use mathlib.Core.List.{List, [], _∷_, _++_, map}
+use mathlib.Core.List.{List, _∷_, _++_, map}
 use Prim.Native.Nat.{ℕ, _+_, _*_, _<_, _≤_}
 use native.Mathlib.Omega.{arith}
 use native.Mathlib.Nat.{lt-irrefl}
 use lib.ListN.{length, getD, drop, length-append, length-map, length-drop}
 use lib.Seq.{drop-drop, getD-append-seam}
 use Rattle.rules.specs.declared.Entry.{Entry}
-use Rattle.rules.specs.declared.Refusal.{Refusal}
 use Rattle.rules.specs.declared.Listed.{Listed}
 use Rattle.rules.specs.StarList.{countIn, fileLength, starIn, starsIn, stars, listCount, readInto, listRead, freshEntry}
 use Rattle.rules.specs.StarList.{leaving, entriesAfterRead}
-use Rattle.laws.specs.Records.{each, starsIn-each, each-nth}
-use Rattle.laws.specs.StarList.{stars-length, counted, read-accepted}
+use Rattle.laws.specs.Records.{starsIn-each, each-nth}
+use Rattle.laws.specs.FileLength.{stars-length}
+use Rattle.laws.specs.FileTests.{counted}
+use Rattle.laws.specs.StarList.{read-accepted}
 use Rattle.star_file.specs.declared.Plan.{Plan}
 use Rattle.star_file.specs.Plans.{planOf, readPlan}
 
@@ -39,7 +40,8 @@ pub read-many : (file : List ℕ) (k : ℕ) (ps ys : List Entry) → ps ++ ys �
 read-many file k ps ys e = sym (length-append ps ys) ∙ ap length e ∙ read-count file k
 
 -- the next to come is the record at that place
-pub read-next : (file : List ℕ) (k : ℕ) (ps : List Entry) (y : Entry) (ys : List Entry) → ps ++ (y ∷ ys) ≡ readEntries file k
+pub read-next : (file : List ℕ) (k : ℕ) (ps : List Entry) (y : Entry) (ys : List Entry)
+    → ps ++ (y ∷ ys) ≡ readEntries file k
     → freshEntry (starIn (drop (7 + 24 * length ps) file)) ≡ y
 read-next file k ps y ys e =
     let many : length ps + length (y ∷ ys) ≡ k = read-many file k ps (y ∷ ys) e in

@@ -1,20 +1,21 @@
 -- What the walk of `write_list` needs: records put one by one are the file's, and what the plan says of lengths.
-use mathlib.Core.Path.{_≡_, refl, sym, _∙_, ap, subst}
+use mathlib.Core.Path.{_≡_, sym, _∙_, ap, subst}
 use mathlib.Core.Bool.{not, cond}
 use mathlib.Core.List.{List, [], _∷_, _++_, map, append-assoc, map-append}
 use Prim.Native.Nat.{ℕ, _+_, _*_, _<_, _≤_}
 use native.Mathlib.Omega.{arith}
 use native.Mathlib.Nat.{lt-irrefl}
 use lib.Dec.{eqb}
-use lib.ListN.{length, getD, take, drop, length-append, length-map, take-append-drop}
+use lib.ListN.{length, getD, take, drop, length-append, take-append-drop}
 use lib.Seq.{length-take-le, take-length, getD-append-seam}
 use Rattle.rules.specs.declared.Entry.{Entry}
 use Rattle.rules.specs.declared.Listed.{Listed}
-use Rattle.rules.specs.StarList.{fileLength, recordOf, anyRefused, leaving, starsOf, fileOf, roomRefused, writtenOf}
+use Rattle.rules.specs.StarList.{fileLength, recordOf, leaving, starsOf, roomRefused, writtenOf}
 use Rattle.rules.specs.StarList.{listWritten, roomAfterWrite}
 use Rattle.rules.specs.Place.{starRefused}
 use Rattle.laws.specs.Records.{acceptedIn, accepted-le, accepted-snoc, any-counted}
-use Rattle.laws.specs.StarList.{records, record-length, records-length, headOf, starsOf-length, write-accepted}
+use Rattle.laws.specs.FileLength.{records, record-length, records-length, headOf, starsOf-length}
+use Rattle.laws.specs.ListWriting.{write-accepted}
 use Rattle.star_file.specs.declared.Plan.{Plan}
 use Rattle.star_file.specs.Plans.{planOf, writePlan, Ready}
 use Rattle.star_file.specs.Puts.{put, put-length, put-none, put-put}
@@ -54,7 +55,8 @@ taken-here k xs ps z zs e =
     (sym (take-append-drop k xs) ∙ ap (λ r. r ++ drop k xs) (sym e) ∙ append-assoc ps (z ∷ zs) (drop k xs))
     ∙ getD-append-seam ps z (zs ++ drop k xs) z
 
-pub taken-next : (k : ℕ) (xs : List Entry) (room : List ℕ) (ps : List Entry) (z : Entry) (zs : List Entry) (cur : List ℕ)
+pub taken-next : (k : ℕ) (xs : List Entry) (room : List ℕ) (ps : List Entry) (z : Entry) (zs : List Entry)
+    (cur : List ℕ)
     → ps ++ (z ∷ zs) ≡ take k xs → putAll (length ps) (z ∷ zs) cur ≡ putAll 0 (take k xs) room
     → (c : List ℕ) → c ≡ put cur (7 + 24 * length ps) (recordOf (getD xs (length ps) z .star))
     → putAll (length (ps ++ (z ∷ []))) zs c ≡ putAll 0 (take k xs) room
@@ -73,7 +75,8 @@ all-put i (e ∷ es) room l =
     let r = recordOf (e .star) in
     let one = record-length (e .star) in
     let next : (7 + 24 * i) + length r ≡ 7 + 24 * (i + 1) = omega (arith, one) in
-    let long : length (put room (7 + 24 * i) r) ≡ length room = put-length room (7 + 24 * i) r (omega (arith, one, l)) in
+    let long : length (put room (7 + 24 * i) r) ≡ length room = put-length room (7 + 24 * i) r
+    (omega (arith, one, l)) in
     all-put (i + 1) es (put room (7 + 24 * i) r) (omega (arith, long, l))
     ∙ put-put room (7 + 24 * i) (7 + 24 * (i + 1)) r (records (starsOf es)) next
     (omega (arith, one, records-length (starsOf es), starsOf-length es, l))
@@ -112,20 +115,23 @@ by-answer xs room (Listed.Refused r) e = record {
   after = rw e;
 }
 
-plan-answer : (xs : List Entry) (room : List ℕ) → writePlan (acceptedAll xs) (length xs) (length room) .answer ≡ listWritten xs room
+plan-answer : (xs : List Entry) (room : List ℕ)
+    → writePlan (acceptedAll xs) (length xs) (length room) .answer ≡ listWritten xs room
 unfolding writePlan planOf listWritten
 plan-answer xs room =
     ap (λ t. writtenOf t (roomRefused (length xs) (length room)) (length xs))
     (ap (λ n. not (eqb (acceptedAll xs) n)) (sym (starsOf-length xs)) ∙ any-counted (starsOf xs))
 
-plan-done : (xs : List Entry) (room : List ℕ) (plan : Plan) → plan ≡ writePlan (acceptedAll xs) (length xs) (length room)
+plan-done : (xs : List Entry) (room : List ℕ) (plan : Plan)
+    → plan ≡ writePlan (acceptedAll xs) (length xs) (length room)
     → Done xs room (plan .answer) (plan .todo)
 unfolding writePlan planOf
 plan-done xs room plan e =
     subst (λ (p : Plan). Done xs room (p .answer) (p .todo)) (sym e)
     (by-answer xs room _ (sym (plan-answer xs room)))
 
-module _ (xs : List Entry) (room : List ℕ) (plan : Plan) (planned : plan ≡ writePlan (acceptedAll xs) (length xs) (length room)) where
+module _ (xs : List Entry) (room : List ℕ) (plan : Plan)
+    (planned : plan ≡ writePlan (acceptedAll xs) (length xs) (length room)) where
   all : Done xs room (plan .answer) (plan .todo)
   all = plan-done xs room plan planned
 

@@ -53,8 +53,8 @@ fn accepted_entries(entries: &[Entry]) -> usize
 // The stars of entries written as a list file.
 //
 // Given: entries, any number, of which neither mark nor place is looked at; room, any.
-// Returned: the file's length, and the file at the start of room; the bytes past it stay. Or refusal
-// 5 or 11, and all bytes stay.
+// Returned: the file's length, and the file at the start of room; the bytes past it stay. Or
+// refusal 5 or 11, and all bytes stay.
 // Rule: 01, "Lists".
 pub fn write_list(entries: &[Entry], room: &mut [u8]) -> Listed
     ensures { λ r. ⌜ (r ≡ listWritten (now (entries .entry)) (now (room .entry)))

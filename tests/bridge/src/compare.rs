@@ -40,7 +40,7 @@ pub fn compare_lent<const GIVEN: usize, const ANSWERED: usize>(
         for ((given, ours), answer) in given.into_iter().zip(ours).zip(answers) {
             let mut theirs = given.clone();
             let expected = second(&mut theirs);
-            if (answer, &ours.room) != (expected, &theirs.room) {
+            if (answer, &ours.room, &ours.read) != (expected, &theirs.room, &theirs.read) {
                 panic!(
                     "{} differs, seed {}\n  given   {}\n  module  {}\n  second  {}",
                     function.name,

@@ -58,11 +58,12 @@ pub const TIMES_LINE: Function<0, 1> = Function {
         extern "C" {
             fn inner_times_line(line: *const u8, line_len: usize, out: *mut u8, out_len: usize) -> Words<1>;
         }
-        let (line, out) = (&call.read, &mut call.room);
-        // Safety: `tests/exports` says that the archive has it; each pointer goes with its own length.
-        unsafe { inner_times_line(line.as_ptr(), line.len(), out.as_mut_ptr(), out.len()) }.0
+        let line = &call.read;
+        lend(&mut call.room, |out, length| {
+            // Safety: `tests/exports` says that the archive has it; each pointer goes with its own length.
+            unsafe { inner_times_line(line.as_ptr(), line.len(), out, length) }.0
+        })
     },
-    blank: |_| {},
 };
 
 #[cfg(exported = "earth")]
@@ -91,114 +92,75 @@ exported! {
     ) -> (refused, ra, declination, azimuth, altitude);
 }
 
-/// An entry of a list in C: two words of 64 bits, two of 32, the mark in a byte of its own word, the place in four words.
+/// The number of records of a list file.
 #[cfg(exported = "star_list")]
-pub const ENTRY_BYTES: usize = 64;
-
-/// The bytes of an entry's third word that follow the mark.
-#[cfg(exported = "star_list")]
-fn blank_entries(room: &mut [u8]) {
-    for entry in room.chunks_exact_mut(ENTRY_BYTES) {
-        entry[25..32].fill(0);
-    }
-}
-
-/// Lends entries as C wants them: bytes alone need not begin at a whole word.
-#[cfg(all(linked, exported = "star_list"))]
-fn lend_entries<T>(bytes: &mut [u8], call: impl FnOnce(*mut [i64; 8], usize) -> T) -> T {
-    let word = |bytes: &[u8]| i64::from_le_bytes(bytes.try_into().expect("a whole word"));
-    let entry = |bytes: &[u8]| std::array::from_fn(|at| word(&bytes[8 * at..8 * at + 8]));
-    let mut entries: Vec<[i64; 8]> = bytes.chunks_exact(ENTRY_BYTES).map(entry).collect();
-    let answer = call(entries.as_mut_ptr(), entries.len());
-    for (bytes, word) in bytes.chunks_exact_mut(8).zip(entries.concat()) {
-        bytes.copy_from_slice(&word.to_le_bytes());
-    }
-    answer
-}
-
-/// A list file read into the room's entries.
-#[cfg(exported = "star_list")]
-pub const LIST_READ: Function<0, 2> = Function {
-    name: "inner_list_read",
+pub const LIST_COUNT: Function<0, 2> = Function {
+    name: "turbelicus_list_count",
     given: [],
     answered: ["refused", "count"],
     #[cfg(linked)]
     linked: |call| {
         extern "C" {
-            fn inner_list_read(
-                file: *const u8,
-                file_len: usize,
-                room: *mut [i64; 8],
-                room_len: usize,
-            ) -> Words<2>;
+            fn turbelicus_list_count(file: *const u8, file_length: usize) -> Words<2>;
         }
         let file = &call.read;
-        // Safety: `tests/exports` says that the archive has it; each pointer goes with its own length.
-        let read = |room, length| unsafe { inner_list_read(file.as_ptr(), file.len(), room, length) };
-        lend_entries(&mut call.room, read).0
+        // Safety: `tests/exports` says that the archive has it; the pointer goes with its length.
+        unsafe { turbelicus_list_count(file.as_ptr(), file.len()) }.0
     },
-    blank: blank_entries,
 };
 
-/// The list file of entries, written to the room.
+/// A star of a list file; its two motions, of 32 bits each, are one word.
+#[cfg(exported = "star_list")]
+pub const LIST_STAR: Function<1, 4> = Function {
+    name: "turbelicus_list_star",
+    given: ["index"],
+    answered: ["refused", "ra", "declination", "motions"],
+    #[cfg(linked)]
+    linked: |call| {
+        extern "C" {
+            fn turbelicus_list_star(file: *const u8, file_length: usize, index: usize) -> Words<4>;
+        }
+        let ([index], file) = (call.given, &call.read);
+        // Safety: `tests/exports` says that the archive has it; the pointer goes with its length.
+        unsafe { turbelicus_list_star(file.as_ptr(), file.len(), index as usize) }.0
+    },
+};
+
+/// The list file of numbers, which are read as words, written to the room.
 #[cfg(exported = "star_list")]
 pub const LIST_WRITE: Function<0, 2> = Function {
-    name: "inner_list_write",
+    name: "turbelicus_list_write",
     given: [],
     answered: ["refused", "length"],
     #[cfg(linked)]
     linked: |call| {
         extern "C" {
-            fn inner_list_write(
-                entries: *const [i64; 8],
-                entries_len: usize,
+            fn turbelicus_list_write(
+                numbers: *const i64,
+                numbers_length: usize,
                 room: *mut u8,
-                room_len: usize,
+                room_length: usize,
             ) -> Words<2>;
         }
-        let (entries, room) = (&mut call.read, &mut call.room);
-        lend_entries(entries, |entries, length| {
+        // bytes alone need not begin at a whole word
+        let word = |bytes: &[u8]| i64::from_le_bytes(bytes.try_into().expect("a whole word"));
+        let numbers: Vec<i64> = call.read.chunks_exact(8).map(word).collect();
+        lend(&mut call.room, |room, length| {
             // Safety: `tests/exports` says that the archive has it; each pointer goes with its own length.
-            unsafe { inner_list_write(entries, length, room.as_mut_ptr(), room.len()) }.0
+            unsafe { turbelicus_list_write(numbers.as_ptr(), numbers.len(), room, length) }.0
         })
     },
-    blank: |_| {},
 };
 
-/// A night list worked in the room, at a UTC date and time, over a site.
-#[cfg(exported = "star_list")]
-pub const NIGHT_LIST: Function<10, 2> = Function {
-    name: "inner_night_list",
-    given: ["year", "month", "day", "hour", "minute", "second", "ms", "difference", "latitude", "longitude"],
-    answered: ["refused", "count"],
-    #[cfg(linked)]
-    linked: |call| {
-        extern "C" {
-            fn inner_night_list(
-                year: i32,
-                month: i32,
-                day: i32,
-                hour: i32,
-                minute: i32,
-                second: i32,
-                ms: i32,
-                difference: i32,
-                latitude: i64,
-                longitude: i64,
-                entries: *mut [i64; 8],
-                entries_len: usize,
-            ) -> Words<2>;
-        }
-        let [.., latitude, longitude] = call.given;
-        let [y, m, d, hour, minute, second, ms, difference] =
-            std::array::from_fn(|part| i32::try_from(call.given[part]).expect("a number of the C type"));
-        // Safety: `tests/exports` says that the archive has it; the pointer goes with its length.
-        let work = |entries, length| unsafe {
-            inner_night_list(
-                y, m, d, hour, minute, second, ms, difference, latitude, longitude, entries, length,
-            )
-        };
-        lend_entries(&mut call.room, work).0
-    },
-    blank: blank_entries,
-};
+/// Lends the room between guards, which none may write.
+#[cfg(linked)]
+fn lend<T>(room: &mut [u8], call: impl FnOnce(*mut u8, usize) -> T) -> T {
+    const GUARD: [u8; 64] = [0xa5; 64];
+    let mut guarded = [&GUARD[..], room, &GUARD].concat();
+    let (before, rest) = guarded.split_at_mut(GUARD.len());
+    let (middle, after) = rest.split_at_mut(room.len());
+    let answer = call(middle.as_mut_ptr(), middle.len());
+    assert!(before == GUARD && after == GUARD, "it writes past its room");
+    room.copy_from_slice(middle);
+    answer
+}

@@ -28,8 +28,6 @@ pub struct Function<const GIVEN: usize, const ANSWERED: usize> {
     pub answered: [&'static str; ANSWERED],
     #[cfg(linked)]
     pub linked: fn(&mut Call<GIVEN>) -> [i64; ANSWERED],
-    /// Makes nought what is no value in the room: the bytes between the fields of a struct.
-    pub blank: fn(&mut [u8]),
 }
 
 /// The answer of every exported function is a C struct of 64-bit numbers, or one such number, which C returns alike.
@@ -40,14 +38,6 @@ pub struct Words<const ANSWERED: usize>(pub [i64; ANSWERED]);
 impl<const GIVEN: usize, const ANSWERED: usize> Function<GIVEN, ANSWERED> {
     /// The answers to the calls, whose room is as the function left it.
     pub fn answers(&self, calls: &mut [Call<GIVEN>]) -> Vec<[i64; ANSWERED]> {
-        let answers = self.answers_of_module(calls);
-        for call in calls {
-            (self.blank)(&mut call.room);
-        }
-        answers
-    }
-
-    fn answers_of_module(&self, calls: &mut [Call<GIVEN>]) -> Vec<[i64; ANSWERED]> {
         #[cfg(linked)]
         if !through_driver() {
             return calls.iter_mut().map(self.linked).collect();
@@ -83,7 +73,6 @@ macro_rules! exported {
                 // Safety: `tests/exports` says that the archive has it; numbers alone go in and out.
                 unsafe { $name($(<$kind>::try_from($part).expect("a number of the C type")),+) }.0
             },
-            blank: |_| {},
         };
     )*};
 }

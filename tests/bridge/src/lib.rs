@@ -8,8 +8,10 @@
 //! includes, a row in the driver's table, and its comparison in `tests/SUBJECT.rs`. To switch on a subject whose functions
 //! an archive exports by now: name it in `tests/exports`.
 
+pub mod beside;
 pub mod chance;
 pub mod compare;
 mod driver;
 pub mod face;
+pub mod files;
 pub mod function;

@@ -1,12 +1,11 @@
 //! Places: `place` beside `place.rs`.
 #![cfg(exported = "place")]
 
+use bridge::beside::place;
 use bridge::chance::Chance;
-use bridge::compare::{compare, words};
+use bridge::compare::compare;
 use bridge::face::PLACE;
-use second::dates::{Date, Moment};
-use second::place::{self, Site, Star};
-use second::units::{Whole, CIRCLE, HALF_CIRCLE, QUARTER};
+use second::units::{CIRCLE, HALF_CIRCLE, QUARTER};
 
 const RANDOM: usize = 100_000;
 
@@ -33,17 +32,6 @@ const RANGES: [(i64, i64); 14] = {
 
 /// J2000.0, a site and a star without motion.
 const GOOD: [i64; 14] = [2000, 1, 1, 12, 0, 0, 0, 0, 0, 0, 0, 0, 0, 0];
-
-fn place(given: [i64; 14]) -> [i64; 5] {
-    let [year, month, day, hour, minute, second, ms, difference, rest @ ..] = given.map(Whole::from);
-    let moment = Moment { date: Date { year, month, day }, hour, minute, second, ms, difference };
-    let [latitude, longitude, right_ascension, declination, motion_right_ascension, motion_declination] =
-        rest;
-    let site = Site { latitude, longitude };
-    let star = Star { right_ascension, declination, motion_right_ascension, motion_declination };
-    let placed = place::place(moment, site, star);
-    words(placed.map(|place| vec![place.right_ascension, place.declination, place.azimuth, place.altitude]))
-}
 
 #[test]
 fn random_places() {

@@ -1,20 +1,15 @@
 //! Reading an angle: `reading` beside `reading.rs`, and the two promises of document 01 measured.
 #![cfg(exported = "reading")]
 
+use bridge::beside::angle;
 use bridge::chance::{around, Chance};
 use bridge::compare::{compare, print};
 use bridge::face::READING;
 use second::circle::pair;
-use second::reading;
 
 const RANDOM: usize = 1_000_000;
 const LEAST: i64 = i32::MIN as i64;
 const MOST: i64 = i32::MAX as i64;
-
-fn angle([h, v]: [i64; 2]) -> [i64; 1] {
-    let angle = reading::reading(h.into(), v.into());
-    [i64::try_from(angle).expect("an answer of 64 bits")]
-}
 
 /// n and the m next to 2n/5, where the reading goes from one formula to the other, with both signs and in both orders.
 fn at_switch(chance: &mut Chance) -> [i64; 2] {

@@ -1,22 +1,17 @@
 //! Turns: `turning` beside `turning.rs`, and the way back measured.
 #![cfg(exported = "turning")]
 
+use bridge::beside::turn;
 use bridge::chance::{around, Chance};
-use bridge::compare::{compare, print, words};
+use bridge::compare::{compare, print};
 use bridge::face::TURN;
 use second::rounding::{rnd, root};
-use second::turning::{self, Direction};
+use second::turning::Direction;
 use second::units::{Whole, CIRCLE, UNIT};
 
 const RANDOM: usize = 100_000;
 const MOST_ANGLE: i64 = CIRCLE as i64 - 1;
 const PART: i64 = UNIT as i64;
-
-fn turn(given: [i64; 5]) -> [i64; 4] {
-    let [x, y, z, axis, angle] = given.map(Whole::from);
-    let turned = turning::turn(Direction { x, y, z }, axis, angle);
-    words(turned.map(|turned| vec![turned.x, turned.y, turned.z]))
-}
 
 /// A direction near the sphere of 2^30: most are accepted, some are not.
 fn direction(chance: &mut Chance) -> [i64; 3] {

@@ -3,5 +3,6 @@
 #define STDLIB_H
 #define EXIT_SUCCESS 0
 #define EXIT_FAILURE 1
+long strtol(const char *text, char **end, int base);
 _Noreturn void exit(int status);
 #endif

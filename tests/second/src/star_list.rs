@@ -28,8 +28,8 @@ pub fn file_length(count: usize) -> usize {
     HEAD + RECORD * count
 }
 
-/// Reads a file into the room's first entries and answers their count, or refuses 9, 10, 5, 11 and writes nothing.
-pub fn read(file: &[u8], room: &mut [Entry]) -> Result<usize, Refusal> {
+/// The stars of a file, or refused 9, 10, 5.
+pub fn stars(file: &[u8]) -> Result<Vec<Star>, Refusal> {
     unless(file.len() >= HEAD && file.starts_with(&MARK_AND_VERSION), refusals::MARK)?;
     let count = usize::from(u16::from_le_bytes([file[5], file[6]]));
     unless(count <= MOST_ENTRIES && file.len() == file_length(count), refusals::COUNT)?;
@@ -37,6 +37,18 @@ pub fn read(file: &[u8], room: &mut [Entry]) -> Result<usize, Refusal> {
     for star in &stars {
         check_star(*star)?;
     }
+    Ok(stars)
+}
+
+/// A star of a file by its index, or refused 9, 10, 5, or 11 where the file has no such record.
+pub fn star(file: &[u8], index: usize) -> Result<Star, Refusal> {
+    stars(file)?.get(index).copied().ok_or(refusals::ROOM)
+}
+
+/// Reads a file into the room's first entries and answers their count, or refuses 9, 10, 5, 11 and writes nothing.
+pub fn read(file: &[u8], room: &mut [Entry]) -> Result<usize, Refusal> {
+    let stars = stars(file)?;
+    let count = stars.len();
     unless(count <= room.len(), refusals::ROOM)?;
     // Entries read get mark 0 and four noughts; entries past the count stay.
     for (entry, star) in room.iter_mut().zip(stars) {
@@ -47,15 +59,33 @@ pub fn read(file: &[u8], room: &mut [Entry]) -> Result<usize, Refusal> {
 
 /// Writes the file of the entries' stars and answers its length, or refuses 5, 11 and writes nothing; bytes past it stay.
 pub fn write(entries: &[Entry], room: &mut [u8]) -> Result<usize, Refusal> {
-    for entry in entries {
-        check_star(entry.star)?;
+    let stars: Vec<Star> = entries.iter().map(|entry| entry.star).collect();
+    write_stars(&stars, true, room)
+}
+
+/// The same of a row of numbers, four to a star; refused 11 also where the last star has not all its numbers.
+pub fn write_numbers(numbers: &[Whole], room: &mut [u8]) -> Result<usize, Refusal> {
+    let star = |numbers: &[Whole]| Star {
+        right_ascension: numbers[0],
+        declination: numbers[1],
+        motion_right_ascension: numbers[2],
+        motion_declination: numbers[3],
+    };
+    let stars: Vec<Star> = numbers.chunks_exact(4).map(star).collect();
+    write_stars(&stars, numbers.len() == 4 * stars.len(), room)
+}
+
+/// Writes the file of stars that may be all or not all that were given.
+fn write_stars(stars: &[Star], all: bool, room: &mut [u8]) -> Result<usize, Refusal> {
+    for star in stars {
+        check_star(*star)?;
     }
-    let length = file_length(entries.len());
-    unless(entries.len() <= MOST_ENTRIES && length <= room.len(), refusals::ROOM)?;
+    let length = file_length(stars.len());
+    unless(all && stars.len() <= MOST_ENTRIES && length <= room.len(), refusals::ROOM)?;
     let mut file = MARK_AND_VERSION.to_vec();
-    file.extend((entries.len() as u16).to_le_bytes());
-    for entry in entries {
-        file.extend(record_of(entry.star));
+    file.extend((stars.len() as u16).to_le_bytes());
+    for star in stars {
+        file.extend(record_of(*star));
     }
     room[..length].copy_from_slice(&file);
     Ok(length)

@@ -1,6 +1,6 @@
 -- `calendar::day_of` meets its contract.
 use mathlib.Core.Path.{_≡_, sym, _∙_, ap}
-use mathlib.Core.Bool.{Bool, true, false, not}
+use mathlib.Core.Bool.{Bool, true, false}
 use Prim.Native.Nat.{_^_}
 use lib.IntN.{pos}
 use mir.Facts.{toZ-ofZ}
@@ -12,8 +12,8 @@ use mir.Syntax.{w32}
 use Rattle.rules.specs.declared.Date.{Date}
 use Rattle.rules.specs.declared.Numbered.{Numbered}
 use Rattle.rules.specs.Units.{between}
-use Rattle.rules.specs.Calendar.{yearRefused, dayRefused, dayOf, dayNumber}
-use Rattle.laws.specs.DayNumbers.{RealDate, real-date}
+use Rattle.rules.specs.Calendar.{yearRefused, dayRefused, dayOf}
+use Rattle.laws.specs.DayNumbers.{real-date}
 use Rattle.calendar.proofs.day_of.Statement.{statement}
 use Rattle.calendar.proofs.day_of.Tie as tie
 
@@ -21,11 +21,13 @@ cast-year : tie.Need-cast-year
 cast-year c = widened-ok (c .before .before .args .date .year) (sfits-of (c .struct-told .given .0 .1))
 
 cast-month : tie.Need-cast-month
-cast-month c = widened-ok (c .before .before .before .before .args .date .month) (sfits-of (c .struct-told2 .given .1 .0 .1))
+cast-month c = widened-ok (c .before .before .before .before .args .date .month)
+    (sfits-of (c .struct-told2 .given .1 .0 .1))
 
 cast-day : tie.Need-cast-day
 cast-day c =
-    widened-ok (c .before .before .before .before .before .before .args .date .day) (sfits-of (c .struct-told3 .given .1 .1 .0 .1))
+    widened-ok (c .before .before .before .before .before .before .args .date .day)
+    (sfits-of (c .struct-told3 .given .1 .1 .0 .1))
 
 module _ (c : tie.After-struct-told3) where
   abbrev date : Date
@@ -58,7 +60,8 @@ year-accepted c = rw (year-test (c .before) true (not-false _ (c .if1 .left)))
 day-refused-requires : tie.Need-day-refused-requires
 day-refused-requires c κs = search needs
 
-day-test : (c : tie.After-day-refused) (b : Bool) → c .day-refused .result ≡ b → dayRefused (date (c .before .before .before)) ≡ b
+day-test : (c : tie.After-day-refused) (b : Bool) → c .day-refused .result ≡ b
+    → dayRefused (date (c .before .before .before)) ≡ b
 day-test c b e =
     let s = c .before .before .before in
     sym (rw (year s .value, month s .value, day s .value) at (c .day-refused .ensures)) ∙ e

@@ -1,9 +1,8 @@
 -- `calendar::instants` meets its contract.
-use mathlib.Core.Path.{_≡_, refl, sym, _∙_, ap}
+use mathlib.Core.Path.{_≡_, sym, _∙_}
 use mathlib.Core.Bool.{Bool, true, false}
-use Prim.Native.Nat.{ℕ, _≤_, _^_}
-use native.Mathlib.Omega.{arith}
-use lib.IntN.{ℤ, pos, negℤ, natAbs}
+use Prim.Native.Nat.{_^_}
+use lib.IntN.{pos, negℤ}
 use mir.Syntax.{w32}
 use mir.Val.{ofZ, SFits}
 use borrow.Author.Needs.{needs}
@@ -57,23 +56,28 @@ cast-hour : tie.Need-cast-hour
 cast-hour c = widened-ok _ (hour32 (c .before .before .before .before .before .before .before .before))
 
 cast-minute : tie.Need-cast-minute
-cast-minute c = widened-ok _ (minute32 (c .before .before .before .before .before .before .before .before .before .before))
+cast-minute c = widened-ok _ (minute32 (c .before .before .before .before .before .before .before .before .before
+    .before))
 
 cast-second : tie.Need-cast-second
-cast-second c = widened-ok _ (second32 (c .before .before .before .before .before .before .before .before .before .before .before .before))
+cast-second c = widened-ok _ (second32 (c .before .before .before .before .before .before .before .before .before
+    .before .before .before))
 
 cast-ms : tie.Need-cast-ms
-cast-ms c = widened-ok _ (ms32 (c .before .before .before .before .before .before .before .before .before .before .before .before .before .before))
+cast-ms c = widened-ok _ (ms32 (c .before .before .before .before .before .before .before .before .before .before
+    .before .before .before .before))
 
 cast-difference : tie.Need-cast-difference
-cast-difference c = widened-ok _ (difference32 (c .before .before .before .before .before .before .before .before .before .before .before .before .before .before .before .before))
+cast-difference c = widened-ok _ (difference32 (c .before .before .before .before .before .before .before .before
+    .before .before .before .before .before .before .before .before))
 
 abbrev Told : Type 0
 Told = tie.After-struct-told8
 
 module _ (c : Told) where
   abbrev start : tie.Start
-  start = c .before .before .before .before .before .before .before .before .before .before .before .before .before .before .before .before
+  start = c .before .before .before .before .before .before .before .before .before .before .before .before .before
+      .before .before .before
 
   abbrev moment : Moment
   moment = start .args .moment
@@ -162,7 +166,8 @@ time-test : (c : tie.After-time-refused) (b : Bool) → c .time-refused .result 
     timeRefused (dayNumber (m .date)) (m .time) ≡ b
 time-test c b e =
     let s = c .before .before .before .before .before .before in
-    sym (rw (number (c .before) .value, hour s .value, minute s .value, second s .value, ms s .value) at (c .time-refused .ensures))
+    sym (rw (number (c .before) .value, hour s .value, minute s .value, second s .value, ms s .value) at
+    (c .time-refused .ensures))
     ∙ e
 
 returns-3 : tie.Need-returns-3
@@ -180,9 +185,11 @@ is-between-requires-2 : tie.Need-is-between-requires-2
 is-between-requires-2 c κs = search needs
 
 difference-test : (c : tie.After-is-between2) (b : Bool) → c .is-between2 .result ≡ b
-    → between (negℤ (pos 900)) (pos 900) (moment (c .before .before .before .before .before .before .before .before) .difference) ≡ b
+    → between (negℤ (pos 900)) (pos 900) (moment (c .before .before .before .before .before .before .before .before)
+    .difference) ≡ b
 difference-test c b e =
-    sym (rw (difference (c .before .before .before .before .before .before .before .before) .value) at (c .is-between2 .ensures)) ∙ e
+    sym (rw (difference (c .before .before .before .before .before .before .before .before) .value) at
+    (c .is-between2 .ensures)) ∙ e
 
 returns-4 : tie.Need-returns-4
 unfolding instants differenceRefused within
@@ -216,7 +223,8 @@ ms-of-day-requires : tie.Need-ms-of-day-requires
 ms-of-day-requires c κs =
     rw (hour (told c) .value, minute (told c) .value, second (told c) .value, ms (told c) .value) (accepted c .time)
 
-ms-on : (c : tie.After-ms-of-day) → Holds (bits (c .ms-of-day .result)) (msOfDay (moment (told (c .before)) .time)) 86400999
+ms-on : (c : tie.After-ms-of-day) → Holds (bits (c .ms-of-day .result)) (msOfDay (moment (told (c .before)) .time))
+    86400999
 ms-on c =
     let s = told (c .before) in
     got (rw (hour s .value, minute s .value, second s .value, ms s .value) at (c .ms-of-day .ensures))

@@ -1,11 +1,11 @@
 -- `lines::line_of` meets its contract.
-use mathlib.Core.Path.{_≡_, refl, sym, _∙_, ap}
+use mathlib.Core.Path.{_≡_, sym, _∙_, ap}
 use mathlib.Core.Bool.{Bool, true, false}
 use mathlib.Core.List.{List}
 use Prim.Native.Nat.{ℕ}
 use native.Mathlib.Omega.{arith}
 use lib.IntN.{ℤ}
-use lib.ListN.{length, take, drop, length-take}
+use lib.ListN.{take, drop, length-take}
 use mir.Syntax.{w32}
 use mir.Val.{SFits, toZ, ofZ}
 use mir.Facts.{toZ-ofZ}
@@ -34,7 +34,8 @@ slice-aggregate-of-form c = simp length-take (omega arith)
 of-form-requires : tie.Need-of-form-requires
 of-form-requires c κs = simp length-take (omega arith)
 
-form-test : (c : tie.After-of-form) (b : Bool) → c .of-form .result ≡ b → ofForm form (take 24 (text (c .before .before))) ≡ b
+form-test : (c : tie.After-of-form) (b : Bool) → c .of-form .result ≡ b
+    → ofForm form (take 24 (text (c .before .before))) ≡ b
 form-test c b e = sym (c .of-form .ensures) ∙ e
 
 returns-2 : tie.Need-returns-2
@@ -61,7 +62,8 @@ of-number-requires c κs = search needs
 abbrev line : tie.After-of-number → List ℕ
 line c = text (c .before .before .before .before .before)
 
-difference-test : (c : tie.After-of-number) (b : Bool) → c .of-number .result ≡ b → ofNumber 4 (drop 24 (line c)) ≡ b
+difference-test : (c : tie.After-of-number) (b : Bool) → c .of-number .result ≡ b
+    → ofNumber 4 (drop 24 (line c)) ≡ b
 difference-test c b e = sym (rw (to-end (line c) 24) at (c .of-number .ensures)) ∙ e
 
 returns-3 : tie.Need-returns-3
@@ -117,13 +119,26 @@ unfolding lineOf moment
 returns-4 c =
     let a : tie.Else3 = c .before .before .before .before .before .before .before .before .before in
     let s : List ℕ = line (a .before) in
-    let year : toZ w32 (ofZ w32 (c .before .before .before .before .before .before .before .before .field .result)) ≡ field 0 4 s = number (sfits-of (c .before .before .before .before .before .before .before .before .field .ok)) (c .before .before .before .before .before .before .before .before .field .ensures) in
-    let month : toZ w32 (ofZ w32 (c .before .before .before .before .before .before .before .field2 .result)) ≡ field 5 2 s = number (sfits-of (c .before .before .before .before .before .before .before .field2 .ok)) (c .before .before .before .before .before .before .before .field2 .ensures) in
-    let day : toZ w32 (ofZ w32 (c .before .before .before .before .before .before .field3 .result)) ≡ field 8 2 s = number (sfits-of (c .before .before .before .before .before .before .field3 .ok)) (c .before .before .before .before .before .before .field3 .ensures) in
-    let hour : toZ w32 (ofZ w32 (c .before .before .before .before .before .field4 .result)) ≡ field 11 2 s = number (sfits-of (c .before .before .before .before .before .field4 .ok)) (c .before .before .before .before .before .field4 .ensures) in
-    let minute : toZ w32 (ofZ w32 (c .before .before .before .before .field5 .result)) ≡ field 14 2 s = number (sfits-of (c .before .before .before .before .field5 .ok)) (c .before .before .before .before .field5 .ensures) in
-    let second : toZ w32 (ofZ w32 (c .before .before .before .field6 .result)) ≡ field 17 2 s = number (sfits-of (c .before .before .before .field6 .ok)) (c .before .before .before .field6 .ensures) in
-    let ms : toZ w32 (ofZ w32 (c .before .before .field7 .result)) ≡ field 20 3 s = number (sfits-of (c .before .before .field7 .ok)) (c .before .before .field7 .ensures) in
+    let year : toZ w32 (ofZ w32 (c .before .before .before .before .before .before .before .before .field .result))
+    ≡ field 0 4 s = number (sfits-of (c .before .before .before .before .before .before .before .before .field
+    .ok)) (c .before .before .before .before .before .before .before .before .field .ensures) in
+    let month : toZ w32 (ofZ w32 (c .before .before .before .before .before .before .before .field2 .result))
+    ≡ field 5 2 s = number (sfits-of (c .before .before .before .before .before .before .before .field2 .ok))
+    (c .before .before .before .before .before .before .before .field2 .ensures) in
+    let day : toZ w32 (ofZ w32 (c .before .before .before .before .before .before .field3 .result))
+    ≡ field 8 2 s = number (sfits-of (c .before .before .before .before .before .before .field3 .ok))
+    (c .before .before .before .before .before .before .field3 .ensures) in
+    let hour : toZ w32 (ofZ w32 (c .before .before .before .before .before .field4 .result))
+    ≡ field 11 2 s = number (sfits-of (c .before .before .before .before .before .field4 .ok))
+    (c .before .before .before .before .before .field4 .ensures) in
+    let minute : toZ w32 (ofZ w32 (c .before .before .before .before .field5 .result))
+    ≡ field 14 2 s = number (sfits-of (c .before .before .before .before .field5 .ok))
+    (c .before .before .before .before .field5 .ensures) in
+    let second : toZ w32 (ofZ w32 (c .before .before .before .field6 .result))
+    ≡ field 17 2 s = number (sfits-of (c .before .before .before .field6 .ok))
+    (c .before .before .before .field6 .ensures) in
+    let ms : toZ w32 (ofZ w32 (c .before .before .field7 .result))
+    ≡ field 20 3 s = number (sfits-of (c .before .before .field7 .ok)) (c .before .before .field7 .ensures) in
     let d : toZ w32 (ofZ w32 (c .difference .result)) ≡ signed (drop 24 s) =
     number (sfits-of (c .difference .ok)) (rw (to-end s 24) at (c .difference .ensures)) in
     rw (formed (a .before .before .before), differs a)

@@ -1,13 +1,13 @@
 -- `lines::print_into` meets its contract.
-use mathlib.Core.Path.{_≡_, refl, sym, _∙_, ap}
-use Prim.Native.Nat.{ℕ, _≤_}
+use mathlib.Core.Path.{_∙_}
+use Prim.Native.Nat.{_≤_}
 use native.Mathlib.Omega.{arith}
 use lib.ListN.{length}
 use borrow.Author.Needs.{needs}
 use borrow.Author.Tests.{lt-ltb, le-ltb}
 use Rattle.rules.specs.Lines.{lineOf}
 use Rattle.rules.specs.Times.{printed, overlaid}
-use Rattle.lines.specs.Room.{printedIn}
+use Rattle.lines.specs.Printed.{printedIn}
 use Rattle.laws.specs.Decimal.{overlaid-is}
 use Rattle.laws.specs.Times.{printed-le}
 use Rattle.lines.proofs.print_into.Statement.{statement}

@@ -1,10 +1,8 @@
 -- `lines::print_line` meets its contract.
-use mathlib.Core.Path.{_≡_, refl, sym, _∙_, ap}
-use mathlib.Core.List.{List}
-use Prim.Native.Nat.{ℕ, _≤_}
+use mathlib.Core.Path.{_∙_}
+use Prim.Native.Nat.{_≤_}
 use native.Mathlib.Omega.{arith}
 use lib.ListN.{length}
-use lib.Seq.{sets}
 use borrow.Author.Needs.{needs}
 use Rattle.rules.specs.Lines.{lineOf}
 use Rattle.rules.specs.Times.{printed}
@@ -27,7 +25,8 @@ returns c =
     let s = c .before .before .before .before in
     let e = c .before .before .line-of .ensures in
     let p = printed (lineOf (s .args .line .now)) in
-    let w : length p ≤ length (s .args .out .now) = omega (arith, long (c .before), printed-le (lineOf (s .args .line .now))) in (
+    let w : length p ≤ length (s .args .out .now) = omega
+    (arith, long (c .before), printed-le (lineOf (s .args .line .now))) in (
       rw e at (c .put-line .ensures .0),
       (rw e at (c .put-line .ensures .1)) ∙ overlaid-is p (s .args .out .now) w,
     )

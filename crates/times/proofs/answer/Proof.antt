@@ -1,6 +1,6 @@
 -- `times::answer` is safe: an answer is at most 62 bytes long, so its end has a place in the room.
-use mathlib.Core.Path.{_≡_, refl, sym, _∙_, ap}
-use Prim.Native.Nat.{ℕ, _+_, _≤_}
+use mathlib.Core.Path.{_≡_, sym, _∙_, ap}
+use Prim.Native.Nat.{_+_, _≤_}
 use native.Mathlib.Omega.{arith}
 use lib.ListN.{length, set, length-set, replicate}
 use lib.Seq.{length-take-le}

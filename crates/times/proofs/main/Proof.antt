@@ -1,13 +1,9 @@
 -- `times::main` is safe and ends: the turns fall.
-use mathlib.Core.Path.{_≡_, _∙_}
-use mathlib.Core.Bool.{true}
+use mathlib.Core.Path.{_≡_}
 use mathlib.Core.Logic.{⊎-elim}
 use Prim.Native.Nat.{ℕ, _-_, _^_, _≤_, _<_}
 use native.Mathlib.Omega.{arith}
 use lib.IntN.{pos}
-use lib.Signed.{ltZ}
-use mir.Syntax.{w64}
-use mir.Val.{ofZ}
 use borrow.Author.Needs.{needs}
 use borrow.Author.Tests.{ltb-true}
 use Rattle.integers.specs.Difference.{pos-sub}
@@ -52,7 +48,8 @@ sub-turns : tie.Need-sub-turns Inv-loop μ-loop
 sub-turns c =
     let i = c .before .before .before .before in
     let n = i .before .loop .turns in
-    sub-to-ok (turns (i .before)) (lit 1 tt) most (rw (pos-sub n 1 (left i)) (omega (arith, i .before .loop .inv .0))) tt
+    sub-to-ok (turns (i .before)) (lit 1 tt) most (rw (pos-sub n 1 (left i)) (omega (arith, i .before .loop .inv .0)))
+    tt
 
 loop-less : tie.Need-loop-less Inv-loop μ-loop
 loop-less c =

@@ -1,8 +1,8 @@
 -- `calendar::dates::date_at` meets its contract: the year by one quotient, the rest by `date_in`.
-use mathlib.Core.Path.{_≡_, refl, sym, _∙_}
+use mathlib.Core.Path.{refl, sym, _∙_}
 use Prim.Native.Nat.{ℕ, _+_, _-_, _*_, _/_, _<_}
 use native.Mathlib.Omega.{arith}
-use lib.IntN.{ℤ, pos, natAbs}
+use lib.IntN.{pos, natAbs}
 use lib.ListN.{take}
 use lib.Signed.{ltZ-yes}
 use Rattle.words.specs.Holds.{Holds, bits, _+ʷ_, _-ʷ_, _*ʷ_, _/ʷ_, lit, got, add, add-ok, sub-ok, sub-nat, mul, mul-ok}
@@ -55,7 +55,8 @@ years-before-requires c κs = rw (year c .value) (in-span c)
 start : (c : tie.After-years-before)
     → Holds (bits (c .years-before .result)) (pos (sum (take (yearAt (n (c .before))) years))) 46752
 start c =
-    got (rw (year (c .before) .value, less-first) at (c .years-before .ensures)) (years-before-le (yearAt (n (c .before)))) tt
+    got (rw (year (c .before) .value, less-first) at (c .years-before .ensures))
+    (years-before-le (yearAt (n (c .before)))) tt
 
 rest : (c : tie.After-years-before)
     → Holds (bits (c .before .args .count) -ʷ bits (c .years-before .result))
@@ -68,7 +69,12 @@ sub-date-in c = sub-ok (count (c .before)) (start c) tt
 date-in-requires : tie.Need-date-in-requires
 date-in-requires c κs =
     rw (year (c .before) .value, rest c .value)
-    (record { in-span = in-span (c .before); days-is = refl; days-lt = year-at-rest-lt (n (c .before)) (n-lt (c .before)) })
+    (record {
+      in-span = in-span (c .before);
+      days-is = refl;
+      days-lt = year-at-rest-lt (n (c .before))
+          (n-lt (c .before));
+    })
 
 returns : tie.Need-returns
 returns c =

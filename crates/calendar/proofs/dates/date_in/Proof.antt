@@ -1,10 +1,10 @@
 -- `calendar::dates::date_in` meets its contract. The months passed and the rest make the days given; the measure is the
 -- months left.
-use mathlib.Core.Path.{_≡_, refl, sym, _∙_, ap, subst}
-use Prim.Native.Nat.{ℕ, suc, _+_, _-_, _≤_, _<_}
+use mathlib.Core.Path.{_≡_, sym, _∙_, ap, subst}
+use Prim.Native.Nat.{ℕ, _+_, _-_, _≤_, _<_}
 use native.Mathlib.Numerals.{add-one}
 use native.Mathlib.Omega.{arith}
-use lib.IntN.{ℤ, pos, natAbs, _+ℤ_}
+use lib.IntN.{pos, natAbs, _+ℤ_}
 use lib.ListN.{take, getD}
 use lib.Signed.{ltZ}
 use mir.Syntax.{w32, w64}
@@ -143,7 +143,8 @@ loop-less c = omega arith
 
 -- the month is not longer than the rest
 passed : (c : tie.Else1 Inv-loop μ-loop)
-    → getD (row (l (c .before .before .before))) (c .before .before .before .loop .k) 0 ≤ c .before .before .before .loop .rest
+    → getD (row (l (c .before .before .before))) (c .before .before .before .loop .k) 0 ≤ c .before .before .before
+    .loop .rest
 passed c =
     let a = c .before .before .before in
     ltb-false _ _ (rw (rest a .value, length (c .before) .value) at (c .if1 .left))
@@ -151,14 +152,18 @@ passed c =
 -- what is left of the rest
 rest-bits : (c : tie.Else1 Inv-loop μ-loop)
     → c .before .before .before .loop .rest -ʷ bits (c .before .month-days .result)
-    ≡ c .before .before .before .loop .rest - getD (row (l (c .before .before .before))) (c .before .before .before .loop .k) 0
+    ≡ c .before .before .before .loop .rest - getD (row (l (c .before .before .before)))
+    (c .before .before .before .loop .k) 0
 rest-bits c =
     let a = c .before .before .before in
     rw (rest a .value, length (c .before) .value, pos-sub (a .loop .rest) (getD (row (l a)) (a .loop .k) 0) (passed c))
 
 loop-again : tie.Need-loop-again Inv-loop μ-loop
-loop-again c =
-    (omega arith, rw (rest-bits c, add-one, sum-take-suc) (omega (arith, passed c, c .before .before .before .loop .inv .1)))
+loop-again c = (
+  omega arith,
+  rw (rest-bits c, add-one, sum-take-suc)
+      (omega (arith, passed c, c .before .before .before .loop .inv .1)),
+)
 
 cast-t13 : tie.Need-cast-t13 Inv-loop μ-loop
 cast-t13 c = year32 (c .before)

@@ -1,14 +1,14 @@
 -- `calendar::dates::day_number` meets its contract.
-use mathlib.Core.Path.{_≡_, refl, sym, _∙_, ap}
-use Prim.Native.Nat.{ℕ, _+_, _-_, _<_, _≤_}
+use mathlib.Core.Path.{_≡_}
+use Prim.Native.Nat.{ℕ, _+_, _-_}
 use native.Mathlib.Omega.{arith}
-use lib.IntN.{ℤ, pos, natAbs, _-ℤ_}
+use lib.IntN.{pos, natAbs}
 use lib.ListN.{take}
 use mir.Facts.{toZ-ofZ}
 use borrow.Author.Needs.{needs}
 use Rattle.words.specs.Holds.{Holds, bits, _+ʷ_, _-ʷ_, lit, got, add, add-ok, sub, sub-ok, sub-nat}
 use Rattle.rules.specs.Calendar.{leap, months, sum, years, dayCount}
-use Rattle.laws.specs.Calendar.{row, leap-lt, months-row, months-before-le, years-before-le, months-le}
+use Rattle.laws.specs.Calendar.{leap-lt, months-row, months-before-le, years-before-le, months-le}
 use Rattle.laws.specs.DayNumbers.{day-number-is}
 use Rattle.calendar.proofs.dates.day_number.Statement.{statement}
 use Rattle.calendar.proofs.dates.day_number.Tie as tie
@@ -61,10 +61,16 @@ months-before-requires c κs =
 years-before-requires : tie.Need-years-before-requires
 years-before-requires c κs =
     let s = c .before .before in
-    rw (toZ-ofZ (s .fits .year)) (record { is = s .pre .year-is; at-least = s .pre .real .year-ge; at-most = s .pre .real .year-le })
+    rw (toZ-ofZ (s .fits .year)) (record {
+      is = s .pre .year-is;
+      at-least = s .pre .real .year-ge;
+      at-most = s .pre
+          .real .year-le;
+    })
 
 in-months : (c : tie.After-months-before)
-    → Holds (bits (c .months-before .result)) (pos (sum (take (m (c .before .before) - 1) (months (y (c .before .before)))))) 366
+    → Holds (bits (c .months-before .result)) (pos
+    (sum (take (m (c .before .before) - 1) (months (y (c .before .before)))))) 366
 in-months c =
     let s = c .before .before in
     got (rw (before s .value, row-is (c .before), ← months-row (y s)) at (c .months-before .ensures))
@@ -81,7 +87,8 @@ module _ (c : tie.After-years-before) where
       (pos (sum (take (y s - 1972) years) + sum (take (m s - 1) (months (y s))))) (46752 + 366)
   first = add in-years (in-months (c .before)) tt
 
-  count : Holds (bits (c .years-before .result) +ʷ bits (c .before .months-before .result) +ʷ (bits (s .args .day) -ʷ 1))
+  count : Holds (bits (c .years-before .result) +ʷ bits (c .before .months-before .result) +ʷ
+      (bits (s .args .day) -ʷ 1))
       (pos (sum (take (y s - 1972) years) + sum (take (m s - 1) (months (y s))) + (d s - 1))) (46752 + 366 + 31)
   count = add first (days s) tt
 

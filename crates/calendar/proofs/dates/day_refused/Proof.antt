@@ -1,9 +1,9 @@
 -- `calendar::dates::day_refused` meets its contract.
 use mathlib.Core.Path.{_≡_, sym, _∙_}
-use mathlib.Core.Bool.{Bool, true, false, not}
+use mathlib.Core.Bool.{Bool, true, false}
 use Prim.Native.Nat.{ℕ, _-_}
 use native.Mathlib.Omega.{arith}
-use lib.IntN.{ℤ, pos, natAbs}
+use lib.IntN.{pos, natAbs}
 use lib.ListN.{getD}
 use mir.Facts.{toZ-ofZ}
 use borrow.Author.Needs.{needs}
@@ -12,7 +12,7 @@ use Rattle.words.specs.Holds.{Holds, bits, _-ʷ_, lit, got, sub-ok, sub-nat}
 use Rattle.rules.specs.Units.{between}
 use Rattle.rules.specs.Calendar.{leap, months, monthDays, dayRefused}
 use Rattle.laws.specs.Ranges.{InRange, in-range}
-use Rattle.laws.specs.Calendar.{row, leap-lt, months-row, months-le}
+use Rattle.laws.specs.Calendar.{leap-lt, months-row, months-le}
 use Rattle.calendar.proofs.dates.day_refused.Statement.{statement}
 use Rattle.calendar.proofs.dates.day_refused.Tie as tie
 
@@ -64,7 +64,8 @@ month-days-requires c κs =
     rw (before (c .before) .value, row-is c) (leap-lt (y (c .before)), omega (arith, r .at-least, r .at-most))
 
 days : (c : tie.After-month-days)
-    → Holds (bits (c .month-days .result)) (pos (getD (months (y (c .before .before))) (m (c .before .before) - 1) 0)) 31
+    → Holds (bits (c .month-days .result)) (pos (getD (months (y (c .before .before))) (m (c .before .before) - 1) 0))
+    31
 days c =
     let s = c .before .before in
     let r = in-year s in
@@ -78,7 +79,11 @@ returns-2 : tie.Need-returns-2
 unfolding dayRefused monthDays
 returns-2 c =
     let s = c .before .before .before .before .before in
-    rw (month-is (c .before .before .before), rw (toZ-ofZ (s .fits .day), days (c .before) .value) at (c .is-between2 .ensures))
+    rw (
+      month-is (c .before .before .before),
+      rw (toZ-ofZ (s .fits .day), days (c .before) .value) at
+          (c .is-between2 .ensures),
+    )
 
 pub day-refused-spec : {M : Type 1} → statement M
 day-refused-spec =

@@ -1,8 +1,6 @@
 -- `calendar::seconds::instants_at` meets its contract.
-use mathlib.Core.Path.{_≡_, refl, sym, _∙_, ap}
 use Prim.Native.Nat.{ℕ, _+_, _*_}
-use lib.IntN.{ℤ, pos, natAbs, _+ℤ_, _*ℤ_}
-use mir.Facts.{toZ-ofZ}
+use lib.IntN.{ℤ, pos, _+ℤ_, _*ℤ_}
 use borrow.Author.Needs.{needs}
 use Rattle.words.specs.Holds.{Holds, bits, _+ʷ_, _-ʷ_, _*ʷ_, lit, got, arg, add, add-ok, mul, mul-ok, sub}
 use Rattle.rules.specs.Dates.{taiMinusUtc}
@@ -24,13 +22,15 @@ module _ (c : tie.Start) where
   difference : Holds (bits (c .args .difference)) (c .args .difference) 900
   difference = arg (c .args .difference) (c .pre .difference-le) tt
 
-  sum : Holds (bits (c .args .day) *ʷ 86400000 +ʷ bits (c .args .ms) -ʷ 43200000) (utcAt (c .args .day) (c .args .ms)) most
+  sum : Holds (bits (c .args .day) *ʷ 86400000 +ʷ bits (c .args .ms) -ʷ 43200000) (utcAt (c .args .day) (c .args .ms))
+      most
   sum = sub (add (mul day (lit 86400000 tt) tt) ms tt) (lit 43200000 tt) tt
 
 utc-ms-requires : tie.Need-utc-ms-requires
 utc-ms-requires c κs = rw (day c .value, ms c .value) (c .pre .day-le, c .pre .ms-le)
 
-utc : (c : tie.After-utc-ms) → Holds (bits (c .utc-ms .result)) (utcAt (c .before .args .day) (c .before .args .ms)) most
+utc : (c : tie.After-utc-ms) → Holds (bits (c .utc-ms .result)) (utcAt (c .before .args .day) (c .before .args .ms))
+    most
 utc c =
     let s = c .before in
     got (rw (day s .value, ms s .value) at (c .utc-ms .ensures)) (sum s .size) tt
@@ -65,7 +65,11 @@ add-t6 : tie.Need-add-t6
 add-t6 c = add-ok (utc (c .before)) (difference (c .before .before)) tt
 
 returns : tie.Need-returns
-returns c = rw (add (utc (c .before)) (difference (c .before .before)) tt .value, add (utc (c .before)) (added c) tt .value)
+returns c = rw (
+  add (utc (c .before)) (difference (c .before .before)) tt .value,
+  add (utc (c .before)) (added c) tt
+      .value,
+)
 
 pub instants-at-spec : {M : Type 1} → statement M
 instants-at-spec =

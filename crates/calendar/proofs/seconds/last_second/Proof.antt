@@ -2,7 +2,7 @@
 use mathlib.Core.Path.{_≡_, sym, _∙_}
 use mathlib.Core.Bool.{Bool, true, false}
 use lib.Dec.{lit<}
-use lib.IntN.{ℤ, pos}
+use lib.IntN.{pos}
 use mir.Facts.{toZ-ofZ}
 use borrow.Author.Needs.{needs}
 use Rattle.rules.specs.Units.{same}
@@ -28,7 +28,8 @@ minute-is c = equal 59 (c .before .before .args .minute) (c .before .before .fit
 before-step-requires : tie.Need-before-step-requires
 before-step-requires c κs = search needs
 
-step : (c : tie.After-before-step) (b : Bool) → c .before-step .result ≡ b → beforeStep (c .before .before .before .args .day) ≡ b
+step : (c : tie.After-before-step) (b : Bool) → c .before-step .result ≡ b
+    → beforeStep (c .before .before .before .args .day) ≡ b
 step c b e = sym (rw (toZ-ofZ (c .before .before .before .fits .day)) at (c .before-step .ensures)) ∙ e
 
 returns-3 : tie.Need-returns-3

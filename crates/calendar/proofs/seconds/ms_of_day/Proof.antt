@@ -1,6 +1,6 @@
 -- `calendar::seconds::ms_of_day` meets its contract.
-use Prim.Native.Nat.{ℕ, _+_, _*_}
-use lib.IntN.{ℤ, pos, _+ℤ_, _*ℤ_}
+use Prim.Native.Nat.{_+_, _*_}
+use lib.IntN.{pos, _+ℤ_, _*ℤ_}
 use Rattle.words.specs.Holds.{Holds, bits, _+ʷ_, _*ʷ_, lit, arg, add, add-ok, mul, mul-ok}
 use Rattle.rules.specs.Dates.{msOfDay}
 use Rattle.calendar.proofs.seconds.ms_of_day.Statement.{statement}

@@ -1,15 +1,16 @@
--- `calendar::seconds::tai_minus_utc` meets its contract. The seconds, and the steps still to come that are counted, make
+-- `calendar::seconds::tai_minus_utc` meets its contract. The seconds, and the steps still to come that are counted,
+-- make
 -- the answer; the measure is the steps left.
-use mathlib.Core.Path.{_≡_, refl, sym, _∙_, ap}
+use mathlib.Core.Path.{_≡_, sym, _∙_, ap}
 use mathlib.Core.Logic.{⊎-elim}
 use mathlib.Core.Bool.{Bool, true, false, cond}
-use Prim.Native.Nat.{ℕ, suc, _+_, _-_, _≤_, _<_}
+use Prim.Native.Nat.{ℕ, _+_, _-_, _≤_, _<_}
 use native.Mathlib.Omega.{arith}
-use lib.IntN.{ℤ, pos, natAbs}
+use lib.IntN.{ℤ, pos}
 use lib.ListN.{drop, getD}
 use lib.Signed.{leZ}
 use mir.Syntax.{w64}
-use mir.Val.{toZ, ofZ}
+use mir.Val.{toZ}
 use mir.Facts.{toZ-ofZ}
 use borrow.Author.Needs.{needs}
 use Rattle.words.specs.Holds.{Holds, bits, nat, lit, add-ok}
@@ -37,7 +38,12 @@ array-copy-out-if1 c = omega arith
 -- the seconds so far
 seconds : (c : tie.At-loop Inv-loop μ-loop) → Holds (c .loop .seconds) (pos (c .loop .seconds)) 37
 seconds c =
-    nat (c .loop .seconds) (omega (arith, c .loop .inv .1, up-to-le (toZ w64 (bits (c .before .args .day))) stepNumbers)) tt
+    nat (c .loop .seconds) (omega (
+      arith,
+      c .loop .inv .1,
+      up-to-le (toZ w64 (bits (c .before .args .day)))
+          stepNumbers,
+    )) tt
 
 add-seconds : tie.Need-add-seconds Inv-loop μ-loop
 add-seconds c = add-ok (seconds (c .before .before .before)) (lit 1 tt) tt

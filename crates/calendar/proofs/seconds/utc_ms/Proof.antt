@@ -1,6 +1,6 @@
 -- `calendar::seconds::utc_ms` meets its contract.
-use Prim.Native.Nat.{ℕ, _+_, _*_}
-use lib.IntN.{ℤ, pos, _+ℤ_, _*ℤ_}
+use Prim.Native.Nat.{_+_, _*_}
+use lib.IntN.{pos, _+ℤ_, _*ℤ_}
 use Rattle.words.specs.Holds.{Holds, bits, _+ʷ_, _*ʷ_, lit, arg, add, add-ok, sub, sub-ok, mul, mul-ok}
 use Rattle.calendar.proofs.seconds.utc_ms.Statement.{statement}
 use Rattle.calendar.proofs.seconds.utc_ms.Tie as tie

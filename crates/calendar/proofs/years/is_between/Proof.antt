@@ -1,5 +1,5 @@
 -- `calendar::years::is_between` meets its contract.
-use mathlib.Core.Path.{_≡_, _∙_, sym}
+use mathlib.Core.Path.{_≡_}
 use mathlib.Core.Bool.{true, false}
 use lib.Signed.{leZ}
 use mir.Syntax.{w64}

@@ -1,6 +1,6 @@
 -- `calendar::years::leap` meets its contract: a remainder's bits are nought exactly where the remainder of the size is.
-use mathlib.Core.Path.{_≡_, refl, sym, _∙_}
-use Prim.Native.Nat.{ℕ, zero, suc, _<_, _≤_, _%_, _^_, _-_}
+use mathlib.Core.Path.{_≡_, refl}
+use Prim.Native.Nat.{ℕ, zero, suc, _<_, _≤_, _%_, _-_}
 use native.Mathlib.Nat.{mod-lt}
 use native.Mathlib.Omega.{arith}
 use lib.Dec.{lit<, lit≤, lt→ltb}
@@ -8,7 +8,7 @@ use lib.IntN.{ℤ, pos, negsuc, negℤ, natAbs}
 use lib.Signed.{remZ, quotZ}
 use mir.Syntax.{w64}
 use mir.Val.{toZ, ofZ, SFits}
-use mir.Facts.{toZ-ofZ, sfits-lit}
+use mir.Facts.{toZ-ofZ}
 use borrow.Author.Tests.{eq-eqb, ne-eqb}
 use Rattle.words.specs.Fits.{quot-fits}
 use Rattle.rules.specs.Calendar.{leap}
@@ -41,7 +41,8 @@ module _ (c : tie.Start) (d : ℕ) (p : 0 < d) (q : d ≤ 400) where
   divides : ofZ w64 (remZ (toZ w64 (ofZ w64 (c .args .year))) (pos d)) ≡ 0 → natAbs (c .args .year) % d ≡ 0
   divides e = nought-rem (c .args .year) d p q (rw (year-is c) at e)
 
-  divides-not : (ofZ w64 (remZ (toZ w64 (ofZ w64 (c .args .year))) (pos d)) ≡ 0 → ⊥) → natAbs (c .args .year) % d ≡ 0 → ⊥
+  divides-not : (ofZ w64 (remZ (toZ w64 (ofZ w64 (c .args .year))) (pos d)) ≡ 0 → ⊥) → natAbs (c .args .year) % d ≡ 0
+      → ⊥
   divides-not f e = f (rw (year-is c) (rem-nought (c .args .year) d e))
 
 returns : tie.Need-returns

@@ -17,10 +17,20 @@ index-2-result : tie.Need-index-2-result
 index-2-result c = search needs
 
 cast-result : tie.Need-cast-result
-cast-result c = record { sfits = omega (arith, row-days-le (c .before .args .leap) (c .before .args .month) (c .before .pre .0) (c .before .pre .1)) }
+cast-result c = record {
+  sfits = omega (
+    arith,
+    row-days-le (c .before .args .leap) (c .before .args .month)
+        (c .before .pre .0) (c .before .pre .1),
+  );
+}
 
 returns : tie.Need-returns
-returns c = toZ-pos w64 (omega (arith, row-days-le (c .before .args .leap) (c .before .args .month) (c .before .pre .0) (c .before .pre .1)))
+returns c = toZ-pos w64 (omega (
+  arith,
+  row-days-le (c .before .args .leap) (c .before .args .month)
+      (c .before .pre .0) (c .before .pre .1),
+))
 
 pub month-days-spec : {M : Type 1} → statement M
 month-days-spec = tie.close (tie.spec mul-result index-1-result index-2-result cast-result returns)

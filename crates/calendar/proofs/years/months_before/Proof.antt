@@ -1,12 +1,10 @@
 -- `calendar::years::months_before` meets its contract. The sum is of the months passed; the measure is the months left.
 use Prim.Native.Nat.{_≤_, _-_}
-use mathlib.Core.Path.{_≡_, sym, _∙_, ap}
+use mathlib.Core.Path.{_≡_, _∙_}
 use native.Mathlib.Numerals.{add-one}
 use native.Mathlib.Omega.{arith}
 use lib.IntN.{pos}
 use lib.ListN.{take, getD}
-use mir.Syntax.{w64}
-use mir.Facts.{toZ-pos}
 use borrow.Author.Needs.{needs}
 use Rattle.words.specs.Holds.{Holds, bits, nat, got, add-ok}
 use Rattle.rules.specs.Calendar.{sum as total}
@@ -29,7 +27,8 @@ month-days-requires : tie.Need-month-days-requires Inv-loop μ-loop
 month-days-requires c κs = search needs
 
 -- the sum so far, and the month that is added
-sum : (c : tie.At-loop Inv-loop μ-loop) → Holds (c .loop .sum) (pos (total (take (c .loop .k) (row (c .before .args .leap))))) 366
+sum : (c : tie.At-loop Inv-loop μ-loop) → Holds (c .loop .sum)
+    (pos (total (take (c .loop .k) (row (c .before .args .leap))))) 366
 sum c =
     let l = months-before-le (c .before .args .leap) (c .loop .k) (c .before .pre .0) in
     rw (c .loop .inv .1) (nat (total (take (c .loop .k) (row (c .before .args .leap)))) l tt)

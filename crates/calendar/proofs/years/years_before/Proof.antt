@@ -2,8 +2,9 @@
 use mathlib.Core.Path.{_∙_, ap}
 use Prim.Native.Nat.{ℕ, _-_, _*_, _/_}
 use native.Mathlib.Omega.{arith}
-use lib.IntN.{ℤ, pos, natAbs}
-use Rattle.words.specs.Holds.{Holds, bits, _-ʷ_, _*ʷ_, _/ʷ_, lit, got, add, add-ok, sub-ok, sub-nat, mul, mul-ok, div-lit, div-ok}
+use lib.IntN.{pos, natAbs}
+use Rattle.words.specs.Holds.{Holds, bits, _-ʷ_, _*ʷ_, _/ʷ_, lit, got, add, add-ok, sub-ok, sub-nat, mul, mul-ok}
+use Rattle.words.specs.Holds.{div-lit, div-ok}
 use Rattle.laws.specs.Calendar.{years-before}
 use Rattle.calendar.proofs.years.years_before.Statement.{statement}
 use Rattle.calendar.proofs.years.years_before.Tie as tie
@@ -43,7 +44,8 @@ add-result : tie.Need-add-result
 add-result c = add-ok (days c) (leaps c) tt
 
 returns : tie.Need-returns
-returns c = add (days c) (leaps c) tt .value ∙ ap pos (omega (arith, years-before (y c - 1972) (omega (arith, c .pre .at-most)), c .pre .at-least))
+returns c = add (days c) (leaps c) tt .value ∙ ap pos
+    (omega (arith, years-before (y c - 1972) (omega (arith, c .pre .at-most)), c .pre .at-least))
 
 pub years-before-spec : {M : Type 1} → statement M
 years-before-spec = tie.close (tie.spec sub-result mul-result sub-result-2 div-result add-result returns)

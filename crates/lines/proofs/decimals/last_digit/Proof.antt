@@ -1,19 +1,19 @@
 -- `lines::decimals::last_digit` meets its contract.
-use mathlib.Core.Path.{_≡_, refl, sym, _∙_, ap}
+use mathlib.Core.Path.{_≡_, refl, _∙_}
 use mathlib.Core.Bool.{true, false}
 use Prim.Native.Nat.{ℕ, _+_, _-_, _%_, _≤_, _<_}
 use native.Mathlib.Omega.{arith}
 use lib.Dec.{lit<}
 use lib.IntN.{ℤ, pos, negsuc, natAbs, _+ℤ_, _-ℤ_}
-use lib.Signed.{quotZ, remZ, ltZ, ltZ-yes}
+use lib.Signed.{remZ, ltZ, ltZ-yes}
 use mir.Syntax.{w64}
-use mir.Val.{SFits, toZ, ofZ}
+use mir.Val.{toZ}
 use mir.Facts.{toZ-ofZ}
 use borrow.Author.Tests.{ltb-true}
-use Rattle.integers.specs.Difference.{eq-of-parts, sub-is, add-is}
+use Rattle.integers.specs.Difference.{eq-of-parts, sub-is}
 use Rattle.integers.specs.Quotient.{abs-rem}
 use Rattle.words.specs.Holds.{Holds, bits, _%ʷ_, _+ʷ_, _-ʷ_, got, lit, add, add-ok, sub, sub-ok}
-use Rattle.words.specs.Fits.{quot-fits, rem-fits}
+use Rattle.words.specs.Fits.{quot-fits}
 use Rattle.laws.specs.Ranges.{true-not-false}
 use Rattle.lines.proofs.decimals.last_digit.Statement.{statement}
 use Rattle.lines.proofs.decimals.last_digit.Tie as tie
@@ -44,7 +44,8 @@ plus (negsuc n) e = true-not-false e
 
 minus : (z : ℤ) → ltZ z (pos 0) ≡ true → pos 48 -ℤ z ≡ pos (48 + natAbs z)
 minus (pos n) e = absurd (omega (arith, ltb-true n 0 e))
-minus (negsuc n) e = eq-of-parts (pos 48 -ℤ negsuc n) (pos (48 + natAbs (negsuc n))) (omega (arith, sub-is (pos 48) (negsuc n)))
+minus (negsuc n) e = eq-of-parts (pos 48 -ℤ negsuc n) (pos (48 + natAbs (negsuc n)))
+    (omega (arith, sub-is (pos 48) (negsuc n)))
 
 sub-result : tie.Need-sub-result
 sub-result c = sub-ok (lit 48 tt) (rest (c .before)) tt

@@ -1,13 +1,11 @@
 -- `lines::decimals::put` meets its contract.
-use mathlib.Core.Path.{_≡_, refl, sym, _∙_, ap}
-use mathlib.Core.Bool.{true, false}
+use mathlib.Core.Path.{_≡_, _∙_, ap}
 use mathlib.Core.List.{List, _∷_}
-use Prim.Native.Nat.{ℕ, suc, _+_, _≤_, _<_}
+use Prim.Native.Nat.{ℕ, _≤_, _<_}
 use native.Mathlib.Numerals.{add-one}
 use native.Mathlib.Omega.{arith}
-use lib.IntN.{ℤ, pos, natAbs}
-use lib.Signed.{ltZ}
-use lib.ListN.{length, set, length-set}
+use lib.IntN.{ℤ, natAbs}
+use lib.ListN.{length, length-set}
 use lib.Seq.{sets, length-sets}
 use mir.Facts.{toZ-ofZ}
 use borrow.Author.Needs.{needs}
@@ -85,7 +83,8 @@ written c =
     ∙ rw (decimal-is a)
 
 same-length : tie.Need-same-length
-same-length c = let a = c .before .before .before .before in ap length (written c) ∙ length-sets (room a) (at a) (decimal (n (start a)))
+same-length c = let a = c .before .before .before .before in ap length (written c)
+    ∙ length-sets (room a) (at a) (decimal (n (start a)))
 
 returns : tie.Need-returns
 returns c =
@@ -122,7 +121,8 @@ returns-2 c =
     let a = c .before .before .before .before in
     let s = start-2 a in (
       omega (arith, width-is (a .before), ap length (decimal-is-2 a), digits-length s),
-      rw (toZ-ofZ (s .fits .n), width-is (a .before)) at (c .before .before .put-digits2 .ensures) ∙ rw (decimal-is-2 a),
+      rw (toZ-ofZ (s .fits .n), width-is (a .before)) at (c .before .before .put-digits2 .ensures)
+          ∙ rw (decimal-is-2 a),
     )
 
 pub put-spec : {M : Type 1} → statement M

@@ -1,12 +1,12 @@
--- `lines::decimals::put_digits` meets its contract. What is done, with the digits left, is the whole; the measure is the
+-- `lines::decimals::put_digits` meets its contract. What is done, with the digits left, is the whole; the measure is
+-- the
 -- digits left.
-use mathlib.Core.Path.{_≡_, refl, sym, _∙_, ap}
-use mathlib.Core.List.{List}
-use Prim.Native.Nat.{ℕ, _+_, _-_, _/_, _%_, _≤_, _<_}
+use mathlib.Core.Path.{_≡_, refl, _∙_}
+use Prim.Native.Nat.{_+_, _-_, _%_, _≤_, _<_}
 use native.Mathlib.Omega.{arith}
 use lib.Dec.{lit<}
 use lib.IntN.{ℤ, pos, natAbs}
-use lib.ListN.{length, set, length-set}
+use lib.ListN.{length, length-set}
 use lib.Signed.{quotZ, ltZ-yes}
 use mir.Syntax.{w64}
 use mir.Val.{SFits, toZ}

@@ -1,7 +1,8 @@
--- `lines::decimals::width` meets its contract. The digits counted, and those of the rest, are one more than the answer; the
+-- `lines::decimals::width` meets its contract. The digits counted, and those of the rest, are one more than the answer;
+-- the
 -- measure is the digits that may come.
-use mathlib.Core.Path.{_≡_, refl, sym, _∙_, ap}
-use Prim.Native.Nat.{ℕ, zero, suc, _+_, _-_, _/_, _≤_, _<_}
+use mathlib.Core.Path.{_≡_, refl, _∙_}
+use Prim.Native.Nat.{ℕ, _+_, _-_, _/_, _≤_}
 use native.Mathlib.Omega.{arith}
 use mathlib.Core.Bool.{Bool, true, false}
 use lib.Dec.{ltb}
@@ -20,7 +21,8 @@ use Rattle.lines.proofs.decimals.width.Tie as tie
 
 abbrev Inv-loop : tie.InvT-loop
 Inv-loop n k₀ rest₀ k rest =
-    ((1 ≤ k) × (k ≤ 19)) × (SFits w64 (toZ w64 rest) × (k + law.width (19 - k) (natAbs (toZ w64 rest)) ≡ 1 + law.width 18 (natAbs (toZ w64 n))))
+    ((1 ≤ k) × (k ≤ 19)) × (SFits w64 (toZ w64 rest)
+    × (k + law.width (19 - k) (natAbs (toZ w64 rest)) ≡ 1 + law.width 18 (natAbs (toZ w64 n))))
 
 abbrev μ-loop : tie.MeasureT-loop
 μ-loop n k₀ rest₀ k rest = 19 - k
@@ -58,7 +60,8 @@ n-is : (c : tie.Start Inv-loop μ-loop) → toZ w64 (bits (c .args .n)) ≡ c .a
 n-is c = toZ-ofZ (c .fits .n)
 
 -- what is counted in the end
-counted : (c : tie.At-loop Inv-loop μ-loop) → c .loop .k + 1 ≡ 1 + law.width 18 (natAbs (toZ w64 (bits (c .before .args .n))))
+counted : (c : tie.At-loop Inv-loop μ-loop) → c .loop .k + 1
+    ≡ 1 + law.width 18 (natAbs (toZ w64 (bits (c .before .args .n))))
     → c .loop .k ≡ law.width 18 (natAbs (c .before .args .n))
 counted c e = let f = rw (n-is (c .before)) at e in omega arith
 
@@ -66,7 +69,8 @@ returns : tie.Need-returns Inv-loop μ-loop
 returns c =
     let a = c .before .before in
     let q = of-nought (quotZ (rest a) (pos 10)) (tenth a) (c .if1 .taken) in
-    counted a (law.width-last (a .loop .k) (natAbs (rest a)) _ (omega arith) (omega (arith, abs-quot (rest a) (pos 10))) (a .loop .inv .1 .1))
+    counted a (law.width-last (a .loop .k) (natAbs (rest a)) _ (omega arith)
+    (omega (arith, abs-quot (rest a) (pos 10))) (a .loop .inv .1 .1))
 
 add-k : tie.Need-add-k Inv-loop μ-loop
 add-k c = omega arith
@@ -78,7 +82,8 @@ loop-again : tie.Need-loop-again Inv-loop μ-loop
 loop-again c =
     let a = c .before .before in
     let l : 10 ≤ natAbs (rest a) =
-    above (natAbs (rest a)) (λ q. c .if1 .left (to-nought (quotZ (rest a) (pos 10)) (abs-quot (rest a) (pos 10) ∙ q))) in
+    above (natAbs (rest a)) (λ q. c .if1 .left (to-nought (quotZ (rest a) (pos 10)) (abs-quot (rest a) (pos 10) ∙ q)))
+    in
     rw (toZ-ofZ (tenth a), abs-quot (rest a) (pos 10)) (
       (omega arith, omega arith),
       (tenth a, law.width-step (a .loop .k) (natAbs (rest a)) _ (omega arith) l (a .loop .inv .1 .1)),

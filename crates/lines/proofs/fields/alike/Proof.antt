@@ -1,5 +1,5 @@
 -- `lines::fields::alike` meets its contract.
-use mathlib.Core.Path.{_≡_, sym, _∙_}
+use mathlib.Core.Path.{sym, _∙_}
 use borrow.Author.Needs.{needs}
 use Rattle.rules.specs.Lines.{alike}
 use Rattle.lines.proofs.fields.alike.Statement.{statement}

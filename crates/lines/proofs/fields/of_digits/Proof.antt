@@ -52,7 +52,8 @@ returns-3 c =
     let a = c .before .before .before .before in
     let s = a .before .before .before .before .args .s .now in
     whole (a .before .before .before .before .args .most) s false (omega arith) (omega arith)
-    (one s (a .loop .i) false (omega arith) (sym (c .before .is-digit .ensures) ∙ not-true _ (c .if3 .taken)) (a .loop .inv .1))
+    (one s (a .loop .i) false (omega arith) (sym (c .before .is-digit .ensures) ∙ not-true _ (c .if3 .taken))
+    (a .loop .inv .1))
 
 add-i : tie.Need-add-i Inv-loop μ-loop
 add-i c = omega arith
@@ -63,11 +64,15 @@ loop-less c = omega arith
 loop-again : tie.Need-loop-again Inv-loop μ-loop
 loop-again c =
     let a = c .before .before .before .before in
-    let s = a .before .before .before .before .args .s .now in
-    (omega arith, one s (a .loop .i) true (omega arith) (sym (c .before .is-digit .ensures) ∙ not-false _ (c .if3 .left)) (a .loop .inv .1))
+    let s = a .before .before .before .before .args .s .now in (
+      omega arith,
+      one s (a .loop .i) true (omega arith)
+          (sym (c .before .is-digit .ensures) ∙ not-false _ (c .if3 .left)) (a .loop .inv .1),
+    )
 
 at-end : (s : List ℕ) (i : ℕ) (b : Bool) → i ≡ length s → ofForm (drop i (digits (length s))) (drop i s) ≡ b → true ≡ b
-at-end s i b e w = sym (form-end (digits (length s)) s i (omega (arith, length-replicate (length s) nought)) (sym e)) ∙ w
+at-end s i b e w = sym (form-end (digits (length s)) s i (omega (arith, length-replicate (length s) nought)) (sym e))
+    ∙ w
 
 returns-4 : tie.Need-returns-4 Inv-loop μ-loop
 returns-4 c =

@@ -39,7 +39,8 @@ returns : tie.Need-returns Inv-loop μ-loop
 returns c =
     let a = c .before .before .before .before in
     let p = a .before .before in
-    one (p .args .s .now) (a .loop .i) false (p .pre) (omega arith) (sym (c .before .alike .ensures) ∙ not-true _ (c .if1 .taken))
+    one (p .args .s .now) (a .loop .i) false (p .pre) (omega arith)
+    (sym (c .before .alike .ensures) ∙ not-true _ (c .if1 .taken))
     (a .loop .inv .1)
 
 add-i : tie.Need-add-i Inv-loop μ-loop
@@ -53,11 +54,13 @@ loop-again c =
     let a = c .before .before .before .before in
     let p = a .before .before in (
       omega arith,
-      one (p .args .s .now) (a .loop .i) true (p .pre) (omega arith) (sym (c .before .alike .ensures) ∙ not-false _ (c .if1 .left))
+      one (p .args .s .now) (a .loop .i) true (p .pre) (omega arith)
+          (sym (c .before .alike .ensures) ∙ not-false _ (c .if1 .left))
           (a .loop .inv .1),
     )
 
-at-end : (s : List ℕ) (i : ℕ) → length s ≡ 24 → i ≡ 24 → ofForm (drop i form) (drop i s) ≡ ofForm form s → true ≡ ofForm form s
+at-end : (s : List ℕ) (i : ℕ) → length s ≡ 24 → i ≡ 24 → ofForm (drop i form) (drop i s) ≡ ofForm form s → true
+    ≡ ofForm form s
 at-end s i l e w = sym (form-end form s i (sym e) (omega arith)) ∙ w
 
 returns-2 : tie.Need-returns-2 Inv-loop μ-loop

@@ -1,8 +1,7 @@
 -- `lines::fields::of_number` meets its contract.
 use mathlib.Core.Path.{_≡_, sym, _∙_, ap}
 use mathlib.Core.Bool.{Bool, true, false}
-use mathlib.Core.List.{List}
-use Prim.Native.Nat.{ℕ, _≤_}
+use Prim.Native.Nat.{_≤_}
 use lib.ListN.{length}
 use borrow.Author.Needs.{needs}
 use Rattle.rules.specs.Lines.{negative, ofDigits, ofNumber}
@@ -36,7 +35,8 @@ unfolding ofNumber
 returns c =
     let a = c .before .before in
     let s = a .before .before .before .args .s .now in
-    rw (to-end s 1) at (c .of-digits .ensures) ∙ ap (ofDigits (a .before .before .before .args .most)) (sym (unsigned-is s true (minus (a .before) true (a .if1 .taken))))
+    rw (to-end s 1) at (c .of-digits .ensures) ∙ ap (ofDigits (a .before .before .before .args .most))
+    (sym (unsigned-is s true (minus (a .before) true (a .if1 .taken))))
 
 of-digits-requires-2 : tie.Need-of-digits-requires-2
 of-digits-requires-2 c κs = search needs

@@ -1,13 +1,14 @@
--- `lines::fields::spelled` meets its contract. The number so far, with the bytes left, is the number; the measure is the
+-- `lines::fields::spelled` meets its contract. The number so far, with the bytes left, is the number; the measure is
+-- the
 -- bytes left.
 use mathlib.Core.Path.{_≡_, refl, sym, _∙_, ap}
 use mathlib.Core.List.{List}
-use Prim.Native.Nat.{ℕ, _+_, _-_, _*_, _^_, _≤_, _<_}
+use Prim.Native.Nat.{ℕ, _-_, _*_, _^_, _≤_}
 use native.Mathlib.Omega.{arith}
 use lib.IntN.{pos}
 use lib.ListN.{length, getD, drop}
 use borrow.Author.Needs.{needs}
-use Rattle.words.specs.Holds.{Holds, bits, _+ʷ_, _*ʷ_, nat, lit, got, add, add-ok, mul, mul-ok}
+use Rattle.words.specs.Holds.{Holds, bits, _*ʷ_, nat, lit, got, add-ok, mul, mul-ok}
 use Rattle.rules.specs.Lines.{spelled}
 use Rattle.laws.specs.Lines.{spelled-step, spelled-end, most, most-suc, most-le-12}
 use Rattle.lines.proofs.fields.spelled.Statement.{statement}

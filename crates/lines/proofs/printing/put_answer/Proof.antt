@@ -1,9 +1,8 @@
 -- `lines::printing::put_answer` meets its contract: each number is put after the one before, with a space between.
-use mathlib.Core.Path.{_≡_, refl, sym, _∙_, ap}
-use mathlib.Core.List.{List, _∷_, _++_}
-use Prim.Native.Nat.{ℕ, _+_, _≤_, _<_}
+use mathlib.Core.Path.{_≡_, sym, _∙_, ap}
+use mathlib.Core.List.{List}
+use Prim.Native.Nat.{ℕ, _+_, _≤_}
 use native.Mathlib.Omega.{arith}
-use lib.IntN.{ℤ, natAbs}
 use lib.ListN.{length, set, length-set, length-append}
 use lib.Seq.{sets, length-sets}
 use mir.Facts.{toZ-ofZ}
@@ -64,7 +63,15 @@ add-put c =
 put-requires-2 : tie.Need-put-requires-2
 put-requires-2 c κs =
     let p = c .before .before .before in
-    omega (arith, after-day p, day-length p, day-le (s p), s p .pre, length-set (p .put .last .1 .1 .0) (p .put .result) 32)
+    omega (
+      arith,
+      after-day p,
+      day-length p,
+      day-le (s p),
+      s p .pre,
+      length-set (p .put .last .1 .1 .0)
+          (p .put .result) 32,
+    )
 
 module _ (c : tie.After-put2) where
   abbrev p : tie.After-put
@@ -134,7 +141,8 @@ module _ (c : tie.After-put3) where
       (rw (toZ-ofZ (start .fits .tt)) at (c .put3 .ensures .1))
       ∙ ap (λ m. sets (set m (q .put2 .result) 32) (q .put2 .result + 1) tt′)
       (with-ut q ∙ ap (λ m. sets (set m (p q .put .result) 32) (p q .put .result + 1) (ut start)) (with-day (p q)))
-      ∙ (three-rows (room start) (day start) (ut start) tt′ (p q .put .result) (q .put2 .result) (after-day (p q)) (after-ut q))
+      ∙ (three-rows (room start) (day start) (ut start) tt′ (p q .put .result) (q .put2 .result) (after-day (p q))
+      (after-ut q))
       ∙ ap (sets (room start) 0) (sym (three-numbers-are _ _ _))
 
   all-length : length all ≡ length (day start) + (1 + (length (ut start) + (1 + length tt′)))

@@ -1,18 +1,14 @@
 -- `lines::printing::put_instants` meets its contract.
-use mathlib.Core.Path.{_≡_, refl, sym, _∙_, ap}
+use mathlib.Core.Path.{_≡_, sym, _∙_, ap}
 use mathlib.Core.List.{_++_}
-use Prim.Native.Nat.{ℕ}
 use lib.ListN.{length}
 use lib.Seq.{sets}
-use lib.IntN.{ℤ}
 use mir.Syntax.{w64}
 use mir.Val.{toZ, ofZ}
 use mir.Facts.{toZ-ofZ}
 use borrow.Author.Needs.{needs, sfits-of}
 use Rattle.rules.specs.declared.Ut.{Ut}
 use Rattle.rules.specs.declared.Tt.{Tt}
-use Rattle.rules.specs.declared.Instants.{Instants}
-use Rattle.rules.specs.declared.Refusal.{Refusal}
 use Rattle.rules.specs.Times.{decimal, threeNumbers, answerLine}
 use Rattle.laws.specs.Times.{refusedText, refused-answer, at-answer}
 use Rattle.lines.proofs.printing.put_instants.Statement.{statement}
@@ -52,13 +48,20 @@ module _ (c : tie.After-put-answer) where
   line-is : threeNumbers (toZ w64 (ofZ w64 (start .args .day))) (toZ w64 (ofZ w64 (u .0))) (toZ w64 (ofZ w64 (t .0)))
       ≡ answerLine (start .args .day) (start .args .instants)
   line-is =
-      rw (toZ-ofZ (start .fits .day), toZ-ofZ (sfits-of {z = u .0} (c .before .before .struct-told .given .0 .1)), toZ-ofZ (sfits-of {z = t .0} (c .before .struct-told2 .given .0 .1)))
+      rw (
+        toZ-ofZ (start .fits .day),
+        toZ-ofZ (sfits-of {z = u .0} (c .before .before .struct-told .given .0 .1)),
+        toZ-ofZ (sfits-of {z = t .0} (c .before .struct-told2 .given .0 .1)),
+      )
       (sym (ap (answerLine (start .args .day)) (told .instants .given .1) ∙ at-answer (start .args .day) u t))
 
 returns : tie.Need-returns
 returns c =
-    let x = c .before .before in
-    (x .put-answer .ensures .0 ∙ ap length (line-is x), x .put-answer .ensures .1 ∙ ap (sets (start x .args .out .now) 0) (line-is x))
+    let x = c .before .before in (
+      x .put-answer .ensures .0 ∙ ap length (line-is x),
+      x .put-answer .ensures .1
+          ∙ ap (sets (start x .args .out .now) 0) (line-is x),
+    )
 
 same-length-2 : tie.Need-same-length-2
 same-length-2 c = search needs
@@ -70,10 +73,13 @@ module _ (c : tie.After-put-refused) where
   abbrev start-2 : tie.Start
   start-2 = told-2 .before .before .before
 
-  refused-line : refusedText ++ decimal (toZ w64 (ofZ w64 (c .before .before .number .result))) ≡ answerLine (start-2 .args .day) (start-2 .args .instants)
+  refused-line : refusedText ++ decimal (toZ w64 (ofZ w64 (c .before .before .number .result)))
+      ≡ answerLine (start-2 .args .day) (start-2 .args .instants)
   refused-line =
-      ap (λ z. refusedText ++ decimal z) (toZ-ofZ (sfits-of (c .before .before .number .ok)) ∙ c .before .before .number .ensures)
-      ∙ sym (ap (answerLine (start-2 .args .day)) (told-2 .instants2 .given .1) ∙ refused-answer (start-2 .args .day) (told-2 .instants2 .given .0 .0))
+      ap (λ z. refusedText ++ decimal z) (toZ-ofZ (sfits-of (c .before .before .number .ok))
+      ∙ c .before .before .number .ensures)
+      ∙ sym (ap (answerLine (start-2 .args .day)) (told-2 .instants2 .given .1)
+      ∙ refused-answer (start-2 .args .day) (told-2 .instants2 .given .0 .0))
 
 returns-2 : tie.Need-returns-2
 returns-2 c =

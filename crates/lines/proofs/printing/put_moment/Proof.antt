@@ -1,5 +1,5 @@
 -- `lines::printing::put_moment` meets its contract: a refused date refuses its moment.
-use mathlib.Core.Path.{_≡_, refl, sym, _∙_, ap}
+use mathlib.Core.Path.{_≡_, sym, _∙_, ap}
 use mathlib.Core.List.{_++_}
 use lib.ListN.{length}
 use lib.Seq.{sets}
@@ -9,9 +9,7 @@ use mir.Val.{toZ, ofZ}
 use mir.Facts.{toZ-ofZ}
 use borrow.Author.Needs.{needs, sfits-of}
 use Rattle.rules.specs.declared.Refusal.{Refusal}
-use Rattle.rules.specs.declared.Numbered.{Numbered}
-use Rattle.rules.specs.declared.Instants.{Instants}
-use Rattle.rules.specs.Calendar.{dayNumber, dayOf}
+use Rattle.rules.specs.Calendar.{dayNumber}
 use Rattle.rules.specs.Dates.{instants}
 use Rattle.rules.specs.Times.{decimal, answerLine}
 use Rattle.laws.specs.DayNumbers.{day-of-given}
@@ -54,7 +52,8 @@ module _ (c : tie.After-put-instants) where
   n = told .n .given .0 .0
 
   n-is : n ≡ dayNumber (start .args .moment .date)
-  n-is = sym (day-of-given (start .args .moment .date) n (sym (told .before .before .day-of .ensures) ∙ told .n .given .1) .number)
+  n-is = sym (day-of-given (start .args .moment .date) n
+      (sym (told .before .before .day-of .ensures) ∙ told .n .given .1) .number)
 
   line-is : answerLine (toZ w64 (ofZ w64 n)) (c .before .before .instants .result)
       ≡ answerLine (dayNumber (start .args .moment .date)) (instants (start .args .moment))
@@ -86,9 +85,11 @@ module _ (c : tie.After-put-refused) where
   refused-line : refusedText ++ decimal (toZ w64 (ofZ w64 (c .before .before .number .result)))
       ≡ answerLine (dayNumber (start-2 .args .moment .date)) (instants (start-2 .args .moment))
   refused-line =
-      ap (λ z. refusedText ++ decimal z) (toZ-ofZ (sfits-of (c .before .before .number .ok)) ∙ c .before .before .number .ensures)
+      ap (λ z. refusedText ++ decimal z) (toZ-ofZ (sfits-of (c .before .before .number .ok))
+      ∙ c .before .before .number .ensures)
       ∙ sym (ap (answerLine (dayNumber (start-2 .args .moment .date)))
-      (instants-of-refused (start-2 .args .moment) r (sym (told-2 .before .before .day-of .ensures) ∙ told-2 .r .given .1))
+      (instants-of-refused (start-2 .args .moment) r
+      (sym (told-2 .before .before .day-of .ensures) ∙ told-2 .r .given .1))
       ∙ refused-answer (dayNumber (start-2 .args .moment .date)) r)
 
 returns-2 : tie.Need-returns-2

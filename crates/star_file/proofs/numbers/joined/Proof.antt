@@ -1,14 +1,12 @@
 -- `star_file::numbers::joined` meets its contract.
 use mathlib.Core.Path.{_≡_}
-use Prim.Native.Nat.{_<_, _^_}
 use native.Mathlib.Omega.{arith}
-use lib.IntN.{ℤ, pos, negsuc, _*ℤ_}
-use lib.Signed.{mag}
+use lib.IntN.{pos, _*ℤ_}
 use borrow.Author.Needs.{needs}
 use mir.Facts.{toZ-ofZ, toZ-pos}
 use mir.Syntax.{w64}
 use mir.Val.{toZ, ofZ, SFits}
-use Rattle.laws.specs.Bytes.{below, below-fits, times-fits}
+use Rattle.laws.specs.ByteByByte.{below, below-fits, times-fits}
 use Rattle.star_file.proofs.numbers.joined.Statement.{statement}
 use Rattle.star_file.proofs.numbers.joined.Tie as tie
 

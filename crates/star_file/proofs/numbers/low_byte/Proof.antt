@@ -21,7 +21,8 @@ low-bits (negsuc n) l = omega (arith, l)
 
 masked : (c : tie.Start) → toZ w64 (bitAnd (ofZ w64 (c .args .z)) 255) ≡ pos (modulo (c .args .z) 256)
 masked c =
-    let e : bitAnd (ofZ w64 (c .args .z)) 255 ≡ modulo (c .args .z) 256 = and-mask (ofZ w64 (c .args .z)) 8 ∙ low-bits (c .args .z) (c .fits .z .sfits) in
+    let e : bitAnd (ofZ w64 (c .args .z)) 255 ≡ modulo (c .args .z) 256 = and-mask (ofZ w64 (c .args .z)) 8
+    ∙ low-bits (c .args .z) (c .fits .z .sfits) in
     ap (toZ w64) e ∙ toZ-pos w64 (omega (arith, modulo-lt (c .args .z) 256 (lit< tt)))
 
 cast-result : tie.Need-cast-result

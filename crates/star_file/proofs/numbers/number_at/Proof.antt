@@ -1,6 +1,6 @@
 -- `star_file::numbers::number_at` meets its contract. The loop's invariant: v holds the number in the bytes from k on.
 use mathlib.Core.Path.{_≡_, sym, _∙_, ap, subst}
-use Prim.Native.Nat.{ℕ, _+_, _-_, _*_, _^_, _<_}
+use Prim.Native.Nat.{_+_, _-_, _*_, _^_, _<_}
 use native.Mathlib.Omega.{arith}
 use lib.IntN.{ℤ}
 use lib.ListN.{getD}
@@ -10,7 +10,8 @@ use mir.Syntax.{w64}
 use mir.Val.{toZ, ofZ}
 use Rattle.words.specs.Fits.{held64}
 use Rattle.rules.specs.Bytes.{signedAt}
-use Rattle.laws.specs.Bytes.{Bytes, below, sign-le, signed-one, signed-down, signedAt-wider}
+use Rattle.laws.specs.Bytes.{Bytes}
+use Rattle.laws.specs.ByteByByte.{below, sign-le, signed-one, signed-down, signedAt-wider}
 use Rattle.star_file.proofs.numbers.number_at.Statement.{statement}
 use Rattle.star_file.proofs.numbers.number_at.Tie as tie
 
@@ -41,7 +42,12 @@ sign-of-requires c κs = search needs
 joined-requires : tie.Need-joined-requires Inv-loop μ-loop
 joined-requires c κs =
     let is = held64 (c .sign-of .result) (c .sign-of .ok) ∙ c .sign-of .ensures in
-    subst (λ (z : ℤ). mag z < 2 ^ 55) (sym is) (omega (arith, sign-le (getD (c .before .before .before .before .args .file .now) (c .before .before .before .before .args .at + (c .before .before .before .before .args .width - 1)) 0)))
+    subst (λ (z : ℤ). mag z < 2 ^ 55) (sym is)
+    (omega (
+      arith,
+      sign-le (getD (c .before .before .before .before .args .file .now)
+          (c .before .before .before .before .args .at + (c .before .before .before .before .args .width - 1)) 0),
+    ))
 
 loop-holds : tie.Need-loop-holds Inv-loop μ-loop
 loop-holds c =
@@ -94,7 +100,8 @@ loop-again c =
     (omega (arith, inv .0)) (omega (arith, more, start .pre .1 .0)) (omega (arith, inv .0, start .pre .1 .1)) in (
       omega (arith, inv .0),
       ap (ofZ w64) (c .joined2 .ensures
-          ∙ ap (below (getD (a .file .now) (a .at + (k - 1)) 0)) (ap (toZ w64) (inv .1) ∙ held64 z (omega (arith, small)))
+          ∙ ap (below (getD (a .file .now) (a .at + (k - 1)) 0))
+          (ap (toZ w64) (inv .1) ∙ held64 z (omega (arith, small)))
           ∙ sym (signed-down (a .at) k (a .width) (a .file .now) bytes more (inv .0) (start .pre .1 .1))),
     )
 

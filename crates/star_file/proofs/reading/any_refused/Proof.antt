@@ -2,7 +2,7 @@
 use mathlib.Core.Path.{_≡_, refl, sym, ap, _∙_}
 use mathlib.Core.List.{[]}
 use mathlib.Core.Bool.{false}
-use Prim.Native.Nat.{ℕ, suc, _+_, _-_, _*_, _≤_}
+use Prim.Native.Nat.{suc, _+_, _-_, _*_, _≤_}
 use native.Mathlib.Omega.{arith}
 use lib.ListN.{drop}
 use lib.Seq.{drop-drop}
@@ -41,7 +41,8 @@ star-refused-requires c κs = search needs
 -- what was tested is record i
 tested : (c : tie.After-star-refused Inv-loop μ-loop)
     → c .star-refused .result
-    ≡ starRefused (starIn (drop (24 * c .before .before .before .loop .i) (drop 7 (c .before .before .before .before .before .args .file .now))))
+    ≡ starRefused (starIn (drop (24 * c .before .before .before .loop .i)
+    (drop 7 (c .before .before .before .before .before .args .file .now))))
 tested c =
     let i = c .before .before .before .loop .i in
     let file = c .before .before .before .before .before .args .file .now in
@@ -54,7 +55,8 @@ returns c =
     let i = c .before .before .before .before .loop .i in
     let bytes = drop 7 (a .file .now) in
     sym (ap anyRefused (starsIn-each (a .count) bytes)
-    ∙ any-of starIn 24 (a .count) i bytes (c .before .before .before .loop-test .taken) (sym (tested (c .before)) ∙ c .if1 .taken))
+    ∙ any-of starIn 24 (a .count) i bytes (c .before .before .before .loop-test .taken)
+    (sym (tested (c .before)) ∙ c .if1 .taken))
 
 add-i : tie.Need-add-i Inv-loop μ-loop
 add-i c = omega arith
@@ -82,7 +84,8 @@ returns-2 c =
     let inv = c .before .loop .inv in
     let bytes = drop 7 (a .file .now) in
     let all : i ≡ a .count = omega (arith, inv .0, c .loop-test .left) in
-    sym (ap anyRefused (starsIn-each (a .count) bytes) ∙ ap (λ n. anyRefused (each starIn 24 n bytes)) (sym all) ∙ inv .1)
+    sym (ap anyRefused (starsIn-each (a .count) bytes) ∙ ap (λ n. anyRefused (each starIn 24 n bytes)) (sym all)
+    ∙ inv .1)
 
 pub any-refused-spec : {M : Type 1} → statement M
 any-refused-spec =

@@ -2,7 +2,7 @@
 use mathlib.Core.Path.{_≡_, sym, ap, _∙_}
 use Prim.Native.Nat.{_+_, _*_, _≤_}
 use native.Mathlib.Omega.{arith}
-use lib.ListN.{length, drop}
+use lib.ListN.{length}
 use borrow.Author.Needs.{needs}
 use borrow.Author.Tests.{lt-ltb, le-ltb}
 use Rattle.rules.specs.declared.Listed.{Listed}
@@ -28,15 +28,19 @@ returns c =
     rw e
 
 -- the file holds as many records as it counts
-counted : (c : tie.Then1) → listCount (c .before .before .before .before .before .before .args .file .now) ≡ Listed.Count (c .before .before .count .given .0 .0)
+counted : (c : tie.Then1) → listCount (c .before .before .before .before .before .before .args .file .now) ≡
+    Listed.Count (c .before .before .count .given .0 .0)
 counted c = sym (c .before .before .before .before .list-count .ensures) ∙ c .before .before .count .given .1
 
-long : (c : tie.Then1) → length (c .before .before .before .before .before .before .args .file .now) ≡ 7 + 24 * c .before .before .count .given .0 .0
+long : (c : tie.Then1) → length (c .before .before .before .before .before .before .args .file .now) ≡ 7 + 24 *
+    c .before .before .count .given .0 .0
 unfolding fileLength
-long c = accepted-size (c .before .before .before .before .before .before .args .file .now) (c .before .before .count .given .0 .0) (counted c)
+long c = accepted-size (c .before .before .before .before .before .before .args .file .now)
+    (c .before .before .count .given .0 .0) (counted c)
 
 few : (c : tie.Then1) → c .before .before .count .given .0 .0 ≤ 64
-few c = accepted-few (c .before .before .before .before .before .before .args .file .now) (c .before .before .count .given .0 .0) (counted c)
+few c = accepted-few (c .before .before .before .before .before .before .args .file .now)
+    (c .before .before .count .given .0 .0) (counted c)
 
 mul-star-at : tie.Need-mul-star-at
 mul-star-at c = record { fits = omega (arith, few c, c .if1 .taken) }
@@ -51,14 +55,16 @@ returns-2 : tie.Need-returns-2
 unfolding listStar starAt fileLength
 returns-2 c =
     let e = counted (c .before) in
-    let inside = lt-ltb (c .before .before .before .before .before .before .before .args .index) (c .before .before .before .count .given .0 .0) (c .before .if1 .taken) in
+    let inside = lt-ltb (c .before .before .before .before .before .before .before .args .index)
+    (c .before .before .before .count .given .0 .0) (c .before .if1 .taken) in
     rw (e, inside) (ap Starred.Of (c .star-at .ensures))
 
 returns-3 : tie.Need-returns-3
 unfolding listStar starAt
 returns-3 c =
     let e = sym (c .before .before .before .before .list-count .ensures) ∙ c .before .before .count .given .1 in
-    let past = le-ltb (c .before .before .before .before .before .before .args .index) (c .before .before .count .given .0 .0) (c .if1 .left) in
+    let past = le-ltb (c .before .before .before .before .before .before .args .index)
+    (c .before .before .count .given .0 .0) (c .if1 .left) in
     rw (e, past)
 
 pub list-star-spec : {M : Type 1} → statement M

@@ -6,7 +6,7 @@ use lib.ListN.{getD}
 use borrow.Author.Needs.{needs}
 use borrow.Author.Tests.{eq-eqb, ne-eqb}
 use Rattle.rules.specs.Bytes.{unsignedAt}
-use Rattle.laws.specs.StarList.{mark-short, mark-long}
+use Rattle.laws.specs.FileTests.{mark-short, mark-long}
 use Rattle.star_file.proofs.reading.mark_refused.Statement.{statement}
 use Rattle.star_file.proofs.reading.mark_refused.Tie as tie
 
@@ -65,7 +65,8 @@ returns-5 c =
     ap (λ n. not (eqb n 1)) (c .two-bytes-at .ensures .0)
     ∙ passes (eqb (getD file 0 0) 83) (eqb (getD file 1 0) 76) (eqb (getD file 2 0) 84) (eqb (unsignedAt 3 2 file) 1)
     (eq-eqb (getD file 0 0) 83 (c .before .before .before .before .before .if2 .left))
-    (eq-eqb (getD file 1 0) 76 (c .before .before .before .if3 .left)) (eq-eqb (getD file 2 0) 84 (c .before .if4 .left))
+    (eq-eqb (getD file 1 0) 76 (c .before .before .before .if3 .left))
+    (eq-eqb (getD file 2 0) 84 (c .before .if4 .left))
     ∙ sym (mark-long file (c .before .before .before .before .before .before .before .if1 .left))
 
 pub mark-refused-spec : {M : Type 1} → statement M

@@ -1,5 +1,5 @@
 -- `star_file::reading::read_plan` meets its contract.
-use mathlib.Core.Path.{_≡_, sym, _∙_, ap}
+use mathlib.Core.Path.{sym, _∙_, ap}
 use borrow.Author.Needs.{needs}
 use borrow.Author.Tests.{lt-ltb, le-ltb}
 use Rattle.rules.specs.declared.Listed.{Listed}
@@ -28,7 +28,8 @@ returns-2 : tie.Need-returns-2
 unfolding readPlan planOf readInto leaving
 returns-2 c =
     let e = sym (c .before .before .before .before .list-count .ensures) ∙ c .before .before .count .given .1 in
-    let small = lt-ltb (c .before .before .before .before .before .before .args .room) (c .before .before .count .given .0 .0) (c .if1 .taken) in
+    let small = lt-ltb (c .before .before .before .before .before .before .args .room)
+    (c .before .before .count .given .0 .0) (c .if1 .taken) in
     rw (e, small)
 
 returns-3 : tie.Need-returns-3

@@ -3,7 +3,6 @@ use mathlib.Core.Path.{_≡_, _∙_, ap}
 use Prim.Native.Nat.{_+_}
 use native.Mathlib.Omega.{arith}
 use lib.IntN.{ℤ}
-use lib.ListN.{drop}
 use mir.Syntax.{w32}
 use mir.Val.{toZ, ofZ}
 use Rattle.words.specs.Fits.{held64, held32}
@@ -51,7 +50,8 @@ returns c =
     let r₃ = c .before .number-at3 in
     let r₄ = c .number-at4 in
     let here : a .at ≡ a .at + 0 = omega arith in
-    let ra = held64 (r₁ .result) (r₁ .ok) ∙ r₁ .ensures .0 ∙ ap (λ n. signedAt n 8 file) here ∙ signedAt-drop (a .at) 0 8 file in
+    let ra = held64 (r₁ .result) (r₁ .ok) ∙ r₁ .ensures .0 ∙ ap (λ n. signedAt n 8 file) here
+    ∙ signedAt-drop (a .at) 0 8 file in
     let declination = held64 (r₂ .result) (r₂ .ok) ∙ r₂ .ensures .0 ∙ signedAt-drop (a .at) 8 8 file in
     let ra-motion = ap (λ (z : ℤ). toZ w32 (ofZ w32 z)) (held64 (r₃ .result) (r₃ .ok))
     ∙ held32 (r₃ .result) (r₃ .ensures .1) ∙ r₃ .ensures .0 ∙ signedAt-drop (a .at) 16 4 file in

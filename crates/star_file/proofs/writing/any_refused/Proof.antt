@@ -1,25 +1,20 @@
 -- `star_file::writing::any_refused` meets its contract.
 use mathlib.Core.Path.{_≡_, refl, sym, ap, _∙_}
-use mathlib.Core.Bool.{true, false}
-use mathlib.Core.List.{List, []}
-use Prim.Native.Nat.{ℕ, suc, _+_, _-_, _*_, _≤_}
+use mathlib.Core.Bool.{false}
+use mathlib.Core.List.{[]}
+use Prim.Native.Nat.{suc, _+_, _-_, _*_, _≤_}
 use native.Mathlib.Omega.{arith}
 use borrow.Author.Needs.{needs}
-use lib.IntN.{ℤ, pos}
-use lib.ListN.{length, getD, drop}
-use lib.Seq.{drop-drop, getD-drop}
+use lib.IntN.{pos}
+use lib.ListN.{getD, drop}
 use Rattle.rules.specs.Place.{starRefused}
 use Rattle.rules.specs.StarList.{starFrom, anyRefused}
-use Rattle.laws.specs.Records.{each, starsFrom-each, each-length, each-more, any-of, any-snoc}
-use Rattle.star_file.specs.Puts.{put, put-length, put-none, put-put}
+use Rattle.laws.specs.Records.{each, starsFrom-each, each-more, any-of, any-snoc}
 use Rattle.words.specs.Fits.{held64}
 use Rattle.stars.specs.Numbers.{starOf}
-use Rattle.star_file.specs.Records.{row-star, lowRecords, lowRecord, low-snoc, low-records-length, low-record-length}
+use Rattle.star_file.specs.Records.{row-star}
 use Rattle.star_file.proofs.writing.any_refused.Statement.{statement}
 use Rattle.star_file.proofs.writing.any_refused.Tie as tie
-use Rattle.star_file.proofs.writing.any_refused.Reads as reads
-use Rattle.star_file.proofs.writing.any_refused.Lts as lts
-use Rattle.stars.proofs.numbers_refused.Reads as numbers-refused-reads
 
 abbrev Inv-loop : tie.InvT-loop
 Inv-loop numbers count i₀ i = (i ≤ count) × (anyRefused (each starFrom 4 i numbers) ≡ false)
@@ -80,7 +75,8 @@ numbers-refused-requires c κs = search needs
 -- what was tested is star i
 tested : (c : tie.After-numbers-refused Inv-loop μ-loop)
     → c .numbers-refused .result
-    ≡ starRefused (starFrom (drop (4 * c .before .before .before .before .before .before .loop .i) (c .before .before .before .before .before .before .before .args .numbers .now)))
+    ≡ starRefused (starFrom (drop (4 * c .before .before .before .before .before .before .loop .i)
+    (c .before .before .before .before .before .before .before .args .numbers .now)))
 tested c =
     let k = 4 * c .before .before .before .before .before .before .loop .i in
     let row = c .before .before .before .before .before .before .before .args .numbers .now in
@@ -98,7 +94,8 @@ returns c =
     let i = c .before .before .before .before .before .before .before .loop .i in
     let row = a .numbers .now in
     sym (ap anyRefused (starsFrom-each (a .count) row)
-    ∙ any-of starFrom 4 (a .count) i row (c .before .before .before .before .before .before .loop-test .taken) (sym (tested (c .before)) ∙ c .if1 .taken))
+    ∙ any-of starFrom 4 (a .count) i row (c .before .before .before .before .before .before .loop-test .taken)
+    (sym (tested (c .before)) ∙ c .if1 .taken))
 
 add-i : tie.Need-add-i Inv-loop μ-loop
 add-i c = omega arith
@@ -126,7 +123,8 @@ returns-2 c =
     let inv = c .before .loop .inv in
     let row = a .numbers .now in
     let all : i ≡ a .count = omega (arith, inv .0, c .loop-test .left) in
-    sym (ap anyRefused (starsFrom-each (a .count) row) ∙ ap (λ n. anyRefused (each starFrom 4 n row)) (sym all) ∙ inv .1)
+    sym (ap anyRefused (starsFrom-each (a .count) row) ∙ ap (λ n. anyRefused (each starFrom 4 n row)) (sym all)
+    ∙ inv .1)
 
 pub any-refused-spec : {M : Type 1} → statement M
 any-refused-spec =

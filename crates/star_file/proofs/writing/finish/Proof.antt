@@ -1,19 +1,19 @@
 -- `star_file::writing::finish` meets its contract.
-use mathlib.Core.Path.{_≡_, refl, sym, _∙_, ap}
+use mathlib.Core.Path.{_≡_, sym, _∙_}
 use mathlib.Core.List.{List}
 use Prim.Native.Nat.{ℕ}
-use native.Mathlib.Omega.{arith}
 use borrow.Author.Needs.{needs}
 use Rattle.rules.specs.declared.Listed.{Listed}
 use Rattle.rules.specs.declared.Refusal.{Refusal}
 use Rattle.rules.specs.StarList.{leaving}
-use Rattle.laws.specs.StarList.{headOf}
+use Rattle.laws.specs.FileLength.{headOf}
 use Rattle.star_file.specs.Puts.{put}
 use Rattle.star_file.proofs.writing.finish.Statement.{statement}
 use Rattle.star_file.proofs.writing.finish.Tie as tie
 
 -- what is left in memory, by the answer
-refused-keeps : (answer : Listed) (r : Refusal) (new old : List ℕ) → answer ≡ Listed.Refused r → old ≡ leaving answer new old
+refused-keeps : (answer : Listed) (r : Refusal) (new old : List ℕ) → answer ≡ Listed.Refused r
+    → old ≡ leaving answer new old
 unfolding leaving
 refused-keeps answer r new old e = rw e
 

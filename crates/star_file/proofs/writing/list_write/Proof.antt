@@ -1,18 +1,20 @@
 -- `star_file::writing::list_write` meets its contract.
 use mathlib.Core.Path.{_≡_, sym, ap, _∙_}
-use mathlib.Core.Bool.{true, false}
+use mathlib.Core.Bool.{false}
 use mathlib.Core.List.{List, _++_}
-use Prim.Native.Nat.{ℕ, _+_, _*_, _/_, _≤_}
-use native.Mathlib.Omega.{arith}
+use Prim.Native.Nat.{ℕ, _/_}
 use lib.IntN.{ℤ}
 use lib.ListN.{length, drop}
 use borrow.Author.Needs.{needs}
 use Rattle.rules.specs.declared.Listed.{Listed}
 use Rattle.rules.specs.declared.Refusal.{Refusal}
-use Rattle.rules.specs.StarList.{fileLength, starsFrom, anyRefused, fileOf, leaving, roomRefused, countFrom, numberStars}
+use Rattle.rules.specs.StarList.{fileLength, anyRefused, fileOf, leaving, roomRefused, countFrom, numberStars}
 use Rattle.rules.specs.StarList.{rowRefused, numbersWritten, roomAfterNumbers}
-use Rattle.laws.specs.StarList.{headOf, all-fit, numbers-kept, numbers-refused-5, numbers-refused-11, numbers-counted}
-use Rattle.laws.specs.StarList.{row-uneven, row-even, room-many, room-small, room-enough, number-count}
+use Rattle.laws.specs.FileLength.{headOf}
+use Rattle.laws.specs.StarWidths.{all-fit}
+use Rattle.laws.specs.StarList.{numbers-kept}
+use Rattle.laws.specs.ListWriting.{numbers-refused-5, numbers-refused-11, numbers-counted}
+use Rattle.laws.specs.ListWriting.{row-uneven, row-even, room-many, room-small, room-enough, number-count}
 use Rattle.star_file.specs.Puts.{put}
 use Rattle.star_file.specs.Records.{low-records, file-put}
 use Rattle.star_file.proofs.writing.list_write.Statement.{statement}
@@ -24,15 +26,18 @@ refuses : (numbers : List ℤ) (room : List ℕ) (r : Refusal) → numbersWritte
 refuses numbers room r e = (sym e, sym (numbers-kept numbers room r e))
 
 -- a file: its length, and its bytes with those past it
-writes : (numbers : List ℤ) (room after : List ℕ) → numbersWritten numbers room ≡ Listed.Count (fileLength (countFrom numbers))
-    → after ≡ fileOf (numberStars numbers) ++ drop (fileLength (countFrom numbers)) room → after ≡ roomAfterNumbers numbers room
+writes : (numbers : List ℤ) (room after : List ℕ)
+    → numbersWritten numbers room ≡ Listed.Count (fileLength (countFrom numbers))
+    → after ≡ fileOf (numberStars numbers) ++ drop (fileLength (countFrom numbers)) room
+    → after ≡ roomAfterNumbers numbers room
 unfolding roomAfterNumbers leaving
 writes numbers room after e f = rw e f
 
 any-refused-requires : tie.Need-any-refused-requires
 any-refused-requires c κs = search needs
 
-tested : (c : tie.After-any-refused) → c .any-refused .result ≡ anyRefused (numberStars (c .before .before .args .numbers .now))
+tested : (c : tie.After-any-refused) → c .any-refused .result ≡ anyRefused
+    (numberStars (c .before .before .args .numbers .now))
 unfolding numberStars countFrom
 tested c = c .any-refused .ensures
 
@@ -52,10 +57,13 @@ returns-2 c =
     (numbers-refused-11 (a .numbers .now) (a .room .now) (accepted (c .before))
     (row-uneven (a .numbers .now) (length (a .room .now)) (c .if2 .taken)))
 
-even : (c : tie.Else2) → rowRefused (c .before .before .before .before .args .numbers .now) (length (c .before .before .before .before .args .room .now))
-    ≡ roomRefused (length (c .before .before .before .before .args .numbers .now) / 4) (length (c .before .before .before .before .args .room .now))
+even : (c : tie.Else2) → rowRefused (c .before .before .before .before .args .numbers .now)
+    (length (c .before .before .before .before .args .room .now))
+    ≡ roomRefused (length (c .before .before .before .before .args .numbers .now) / 4)
+    (length (c .before .before .before .before .args .room .now))
 unfolding countFrom
-even c = row-even (c .before .before .before .before .args .numbers .now) (length (c .before .before .before .before .args .room .now)) (c .if2 .left)
+even c = row-even (c .before .before .before .before .args .numbers .now)
+    (length (c .before .before .before .before .args .room .now)) (c .if2 .left)
 
 returns-3 : tie.Need-returns-3
 returns-3 c =
@@ -80,7 +88,8 @@ returns-4 c =
     ∙ room-small (length (a .numbers .now) / 4) (length (a .room .now)) (c .before .if3 .left) (c .if4 .taken)))
 
 -- nothing is refused
-fits : (c : tie.Else4) → rowRefused (c .before .before .before .before .before .before .args .numbers .now) (length (c .before .before .before .before .before .before .args .room .now)) ≡ false
+fits : (c : tie.Else4) → rowRefused (c .before .before .before .before .before .before .args .numbers .now)
+    (length (c .before .before .before .before .before .before .args .room .now)) ≡ false
 unfolding fileLength
 fits c =
     let a = c .before .before .before .before .before .before .args in
@@ -109,13 +118,15 @@ returns-5 c =
     let a = c .before .before .before .before .before .before .before .before .before .before .before .before .before .before .args in
     let row = a .numbers .now in
     let room = a .room .now in
-    let answer = numbers-counted row room (accepted (c .before .before .before .before .before .before .before .before .before .before .before)) (fits else) in (
+    let answer = numbers-counted row room (accepted
+    (c .before .before .before .before .before .before .before .before .before .before .before)) (fits else) in (
       sym answer,
       writes row room (c .before .before .put-head .last .0) answer
           (c .before .before .put-head .ensures
           ∙ ap (λ r. put r 0 (headOf (countFrom row)))
           (c .before .before .before .before .before .before .put-stars .ensures
-          ∙ ap (put room 7) (low-records (numberStars row) (all-fit (numberStars row) (accepted (c .before .before .before .before .before .before .before .before .before .before .before)))))
+          ∙ ap (put room 7) (low-records (numberStars row)
+          (all-fit (numberStars row) (accepted (c .before .before .before .before .before .before .before .before .before .before .before)))))
           ∙ file-put (numberStars row) room (countFrom row) (number-count row) (else .if4 .left)),
     )
 

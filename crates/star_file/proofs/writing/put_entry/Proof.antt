@@ -1,10 +1,10 @@
 -- `star_file::writing::put_entry` meets its contract.
-use mathlib.Core.Path.{_≡_, refl, ap, _∙_}
+use mathlib.Core.Path.{refl, ap, _∙_}
 use Prim.Native.Nat.{_+_, _*_}
 use borrow.Author.Needs.{needs, sfits-of}
 use Rattle.words.specs.Fits.{held64}
 use Rattle.words.specs.Holds.{widened, widened-ok}
-use Rattle.laws.specs.StarList.{StarFits}
+use Rattle.laws.specs.StarWidths.{StarFits}
 use Rattle.stars.specs.Numbers.{starOf}
 use Rattle.star_file.specs.Puts.{put}
 use Rattle.star_file.specs.Records.{lowRecord, low-record}
@@ -19,11 +19,13 @@ add-put-star c = search needs
 
 cast-put-star : tie.Need-cast-put-star
 cast-put-star c =
-    widened-ok (c .before .before .before .before .before .args .entry .star .«ra_motion») (sfits-of (c .struct-told .given .1 .1 .0 .1))
+    widened-ok (c .before .before .before .before .before .args .entry .star .«ra_motion»)
+    (sfits-of (c .struct-told .given .1 .1 .0 .1))
 
 cast-put-star-2 : tie.Need-cast-put-star-2
 cast-put-star-2 c =
-    widened-ok (c .before .before .before .before .before .before .before .args .entry .star .«declination_motion») (sfits-of (c .struct-told2 .given .1 .1 .1 .0 .1))
+    widened-ok (c .before .before .before .before .before .before .before .args .entry .star .«declination_motion»)
+    (sfits-of (c .struct-told2 .given .1 .1 .1 .0 .1))
 
 put-star-requires : tie.Need-put-star-requires
 put-star-requires c κs = search needs
@@ -51,7 +53,8 @@ returns c =
     } in (
       refl,
       c .before .before .put-star .ensures
-          ∙ (λ i. put (a .room .now) (7 + 24 * a .i) (lowRecord (starOf (ra i) (declination i) (ra-motion i) (declination-motion i))))
+          ∙ (λ i. put (a .room .now) (7 + 24 * a .i)
+          (lowRecord (starOf (ra i) (declination i) (ra-motion i) (declination-motion i))))
           ∙ ap (put (a .room .now) (7 + 24 * a .i)) (low-record s fits),
     )
 

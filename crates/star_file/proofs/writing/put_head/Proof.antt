@@ -31,7 +31,8 @@ slice-write-room-6 : tie.Need-slice-write-room-6
 slice-write-room-6 c = lt-length-sets (c .args .room .now) 0 (83 ∷ 76 ∷ 84 ∷ 1 ∷ 0 ∷ []) (omega (arith, c .pre .0))
 
 slice-write-room-7 : tie.Need-slice-write-room-7
-slice-write-room-7 c = lt-length-sets (c .args .room .now) 0 (83 ∷ 76 ∷ 84 ∷ 1 ∷ 0 ∷ c .args .count ∷ []) (omega (arith, c .pre .0))
+slice-write-room-7 c = lt-length-sets (c .args .room .now) 0 (83 ∷ 76 ∷ 84 ∷ 1 ∷ 0 ∷ c .args .count ∷ [])
+    (omega (arith, c .pre .0))
 
 same-length : tie.Need-same-length
 same-length c = search needs

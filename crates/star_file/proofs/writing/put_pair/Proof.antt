@@ -7,7 +7,7 @@ use lib.IntN.{ℤ}
 use lib.ListN.{length}
 use borrow.Author.Needs.{needs}
 use Rattle.words.specs.Fits.{held64}
-use Rattle.laws.specs.Bytes.{lowBytes, low-length}
+use Rattle.laws.specs.ByteByByte.{lowBytes, low-length}
 use Rattle.star_file.specs.Puts.{put, put-put}
 use Rattle.star_file.proofs.writing.put_pair.Statement.{statement}
 use Rattle.star_file.proofs.writing.put_pair.Tie as tie
@@ -35,10 +35,13 @@ returns c =
     let fit : a .at + (length u + length v) ≤ length (a .room .now) =
     omega (arith, start .pre, low-length (a .width) (a .a), low-length (a .width) (a .b)) in
     two .ensures
-    ∙ ap (λ (z : ℤ). put (one .last .0) (a .at + a .width) (lowBytes (a .width) z)) (held64 (a .b) (start .fits .b .sfits))
+    ∙ ap (λ (z : ℤ). put (one .last .0) (a .at + a .width) (lowBytes (a .width) z))
+    (held64 (a .b) (start .fits .b .sfits))
     ∙ ap (λ (r : List ℕ). put r (a .at + a .width) v)
-    (one .ensures ∙ ap (λ (z : ℤ). put (a .room .now) (a .at) (lowBytes (a .width) z)) (held64 (a .a) (start .fits .a .sfits)))
-    ∙ put-put (a .room .now) (a .at) (a .at + a .width) u v (ap (λ (k : ℕ). a .at + k) (low-length (a .width) (a .a))) fit
+    (one .ensures ∙ ap (λ (z : ℤ). put (a .room .now) (a .at) (lowBytes (a .width) z))
+    (held64 (a .a) (start .fits .a .sfits)))
+    ∙ put-put (a .room .now) (a .at) (a .at + a .width) u v
+    (ap (λ (k : ℕ). a .at + k) (low-length (a .width) (a .a))) fit
 
 pub put-pair-spec : {M : Type 1} → statement M
 put-pair-spec =

@@ -6,7 +6,7 @@ use native.Mathlib.Omega.{arith}
 use lib.ListN.{length}
 use borrow.Author.Needs.{needs}
 use Rattle.words.specs.Fits.{held64}
-use Rattle.laws.specs.Bytes.{lowBytes}
+use Rattle.laws.specs.ByteByByte.{lowBytes}
 use Rattle.stars.specs.Numbers.{starOf}
 use Rattle.star_file.specs.Puts.{put, put-put}
 use Rattle.star_file.specs.Records.{pair-length, low-pairs}

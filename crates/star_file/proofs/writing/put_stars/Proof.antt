@@ -1,25 +1,19 @@
 -- `star_file::writing::put_stars` meets its contract.
-use mathlib.Core.Path.{_≡_, refl, sym, ap, _∙_}
-use mathlib.Core.Bool.{true, false}
+use mathlib.Core.Path.{_≡_, sym, ap, _∙_}
 use mathlib.Core.List.{List, []}
 use Prim.Native.Nat.{ℕ, suc, _+_, _-_, _*_, _≤_}
 use native.Mathlib.Omega.{arith}
-use borrow.Author.Needs.{needs}
 use lib.IntN.{ℤ, pos}
 use lib.ListN.{length, getD, drop}
-use lib.Seq.{drop-drop, getD-drop}
-use Rattle.rules.specs.Place.{starRefused}
-use Rattle.rules.specs.StarList.{starFrom, anyRefused}
-use Rattle.laws.specs.Records.{each, starsFrom-each, each-length, each-more, any-of, any-snoc}
+use Rattle.rules.specs.StarList.{starFrom}
+use Rattle.laws.specs.Records.{each, starsFrom-each, each-length, each-more}
 use Rattle.star_file.specs.Puts.{put, put-length, put-none, put-put}
 use Rattle.words.specs.Fits.{held64}
 use Rattle.stars.specs.Numbers.{starOf}
-use Rattle.star_file.specs.Records.{row-star, lowRecords, lowRecord, low-snoc, low-records-length, low-record-length}
+use Rattle.star_file.specs.Records.{row-star, lowRecords, lowRecord, low-snoc, low-records-length}
+use Rattle.star_file.specs.Records.{low-record-length}
 use Rattle.star_file.proofs.writing.put_stars.Statement.{statement}
 use Rattle.star_file.proofs.writing.put_stars.Tie as tie
-use Rattle.star_file.proofs.writing.put_stars.Reads as reads
-use Rattle.star_file.proofs.writing.put_stars.Lts as lts
-use Rattle.star_file.proofs.writing.put_star.Reads as put-star-reads
 
 abbrev Inv-loop : tie.InvT-loop
 Inv-loop room₀ numbers count i₀ room i = (i ≤ count) × (room ≡ put room₀ 7 (lowRecords (each starFrom 4 i numbers)))
@@ -126,7 +120,8 @@ loop-again c =
     let room = start .args .room .now in
     let k = 4 * loop .i in
     let ra = held64 (getD row k (pos 0)) (c .before .before .before .before .before .before .put-star-arg2 .given) in
-    let declination = held64 (getD row (k + 1) (pos 0)) (c .before .before .before .before .before .put-star-arg3 .given) in
+    let declination = held64 (getD row (k + 1) (pos 0))
+    (c .before .before .before .before .before .put-star-arg3 .given) in
     let ra-motion = held64 (getD row (k + 2) (pos 0)) (c .before .before .before .before .put-star-arg4 .given) in
     let declination-motion = held64 (getD row (k + 3) (pos 0)) (c .before .before .before .put-star-arg5 .given) in (
       omega (arith, less),
@@ -151,7 +146,8 @@ returns c =
     let row = start .args .numbers .now in
     let all : loop .i ≡ start .args .count = omega (arith, loop .inv .0, c .loop-test .left) in
     loop .inv .1
-    ∙ ap (put (start .args .room .now) 7) (ap (λ n. written n row) all ∙ ap lowRecords (sym (starsFrom-each (start .args .count) row)))
+    ∙ ap (put (start .args .room .now) 7) (ap (λ n. written n row) all
+    ∙ ap lowRecords (sym (starsFrom-each (start .args .count) row)))
 
 pub put-stars-spec : {M : Type 1} → statement M
 put-stars-spec =

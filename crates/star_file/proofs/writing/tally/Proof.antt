@@ -6,9 +6,6 @@ use native.Mathlib.Omega.{arith}
 use borrow.Author.Needs.{needs}
 use Rattle.star_file.proofs.writing.tally.Statement.{statement}
 use Rattle.star_file.proofs.writing.tally.Tie as tie
-use Rattle.star_file.proofs.writing.tally.Reads as reads
-use Rattle.star_file.proofs.writing.tally.Lts as lts
-use Rattle.stars.proofs.star_refused.Reads as star-refused-reads
 
 star-refused-requires : tie.Need-star-refused-requires
 star-refused-requires c κs = search needs

@@ -1,6 +1,4 @@
 -- `star_file::writing::write_plan` meets its contract.
-use mathlib.Core.Path.{_≡_, sym, ap}
-use Prim.Native.Nat.{_+_, _*_}
 use borrow.Author.Needs.{needs}
 use borrow.Author.Tests.{eq-eqb, ne-eqb, lt-ltb, le-ltb}
 use Rattle.rules.specs.StarList.{fileLength, leaving, roomRefused, writtenOf}
@@ -24,7 +22,12 @@ add-if3 c = search needs
 
 returns-3 : tie.Need-returns-3
 unfolding writePlan planOf writtenOf roomRefused fileLength leaving
-returns-3 c = simp (eq-eqb _ _ (c .before .before .if1 .left), le-ltb _ _ (c .before .if2 .left), lt-ltb _ _ (c .if3 .taken))
+returns-3 c = simp (
+  eq-eqb _ _ (c .before .before .if1 .left),
+  le-ltb _ _ (c .before .if2 .left),
+  lt-ltb _ _
+      (c .if3 .taken),
+)
 
 mul-t9 : tie.Need-mul-t9
 mul-t9 c = search needs
@@ -34,7 +37,12 @@ add-t10 c = search needs
 
 returns-4 : tie.Need-returns-4
 unfolding writePlan planOf writtenOf roomRefused fileLength leaving
-returns-4 c = simp (eq-eqb _ _ (c .before .before .if1 .left), le-ltb _ _ (c .before .if2 .left), le-ltb _ _ (c .if3 .left))
+returns-4 c = simp (
+  eq-eqb _ _ (c .before .before .if1 .left),
+  le-ltb _ _ (c .before .if2 .left),
+  le-ltb _ _
+      (c .if3 .left),
+)
 
 pub write-plan-spec : {M : Type 1} → statement M
 write-plan-spec =

@@ -1,0 +1,3 @@
+-- What the module is given and answers, in plain numbers.
+pub mod Given
+pub mod Answers

@@ -1,0 +1,9 @@
+// What the module's firmware in C calls, with plain numbers and slices: nothing but calls.
+// include/turbelicus.h says the same in C.
+//
+// No function asks anything of its numbers. An answer that may be refused is a struct: the number
+// of the refusal and noughts, or 0 and the values.
+
+pub mod lists;
+pub mod places;
+pub mod turns;

@@ -1,0 +1,48 @@
+-- What the walk of `night_list` needs of lists: the element after ps replaced, and how many of a list are marked 0.
+use mathlib.Core.Path.{_≡_, refl, ap}
+use mathlib.Core.Bool.{Bool, true, false, cond}
+use mathlib.Core.List.{List, [], _∷_, _++_, map}
+use Prim.Native.Nat.{ℕ, _+_, _<_, _≤_}
+use native.Mathlib.Omega.{arith}
+use lib.ListN.{length, take, drop, length-append, length-map, length-drop}
+use lib.Seq.{length-take-le}
+use lib.Dec.{eqb}
+use Rattle.rules.specs.declared.Entry.{Entry}
+use Rattle.rules.specs.NightList.{marked}
+
+pub mid-within : {X : Type 0} (z : X) (zs ps : List X) → length ps < length (ps ++ (z ∷ zs))
+mid-within z zs ps = simp length-append (omega arith)
+
+pub snoc-length : {X : Type 0} (ps : List X) (y : X) → length ps + 1 ≡ length (ps ++ (y ∷ []))
+snoc-length ps y = simp length-append (omega arith)
+
+-- ps and the rest of a mapped list are as many as the list
+pub as-many : {X Y : Type 0} (f : X → Y) (ps : List Y) (zs xs : List X) → ps ++ map f zs ≡ map f xs
+    → length ps + length zs ≡ length xs
+as-many f ps zs xs e = omega (arith, simp (length-append, length-map) at (ap length e))
+
+-- the worked entries and the rest are as many as the list
+pub worked-length : {X : Type 0} (f : X → X) (k : ℕ) (xs : List X) → k ≤ length xs
+    → length (map f (take k xs) ++ drop k xs) ≡ length xs
+worked-length f k xs l = simp (length-append, length-map, length-drop, length-take-le) (omega arith)
+
+abbrev pub markedOne : Entry → ℕ
+markedOne e = cond (eqb (e .mark) 0) 1 0
+
+one-le : (t : Bool) → cond t 1 0 ≤ 1
+one-le true = omega arith
+one-le false = omega arith
+
+pub marked-le : (es : List Entry) → marked es ≤ length es
+unfolding marked
+marked-le [] = omega arith
+marked-le (e ∷ es) = omega (arith, one-le (eqb (e .mark) 0), marked-le es)
+
+pub marked-none : 0 ≡ marked []
+unfolding marked
+marked-none = refl
+
+pub marked-more : (ps : List Entry) (y : Entry) → marked ps + markedOne y ≡ marked (ps ++ (y ∷ []))
+unfolding marked
+marked-more [] y = omega arith
+marked-more (p ∷ ps) y = omega (arith, marked-more ps y)

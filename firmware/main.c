@@ -1,0 +1,105 @@
+/* The firmware of a telescope mount: where its two motors go, for each star of a list.
+ *
+ *   firmware LIST YEAR MONTH DAY HOUR MINUTE SECOND     (UTC)
+ *
+ * It reads the list record by record and asks the module for one place at a time. A line for each star: its number in the
+ * list, azimuth from north through east and altitude, both in arcseconds; or `below` where the mount does not reach down to
+ * the star. What is refused ends it with a word on standard error, before the first line. */
+#include <stdint.h>
+#include <stdio.h>
+#include <stdlib.h>
+
+#include "turbelicus.h"
+
+/* The site, in microarcseconds: 50 05 16 north, 14 25 15 east. */
+#define LATITUDE INT64_C(180316000000)
+#define LONGITUDE INT64_C(51915000000)
+
+/* UT1-UTC in ms: kept by hand, from the bulletins. */
+#define DIFFERENCE 0
+
+/* The mount reaches down to 10 degrees. */
+#define LOWEST INT64_C(36000000000)
+
+/* A list of 64 stars, and one byte more, which tells a file that is too long. */
+#define MOST_BYTES (7 + 24 * 64 + 1)
+
+enum { YEAR, MONTH, DAY, HOUR, MINUTE, SECOND, PARTS };
+
+struct list {
+    uint8_t bytes[MOST_BYTES];
+    size_t length, count;
+};
+
+static int fail(const char *what, const char *which) {
+    fprintf(stderr, "firmware: %s: %s\n", what, which);
+    return EXIT_FAILURE;
+}
+
+static int refuse(const char *what, int64_t refused) {
+    fprintf(stderr, "firmware: %s refused %d\n", what, (int)refused);
+    return EXIT_FAILURE;
+}
+
+/* A whole number of 32 bits, alone in its word. */
+static int is_number(const char *word, int32_t *number) {
+    char *end;
+    long value = strtol(word, &end, 10);
+    if (end == word || *end != '\0' || value < INT32_MIN || value > INT32_MAX) return 0;
+    *number = (int32_t)value;
+    return 1;
+}
+
+static int read_list(const char *name, struct list *list) {
+    FILE *file = fopen(name, "rb");
+    if (file == NULL) return fail("cannot open", name);
+    list->length = fread(list->bytes, 1, sizeof list->bytes, file);
+    int failed = ferror(file);
+    fclose(file);
+    if (failed) return fail("cannot read", name);
+
+    struct turbelicus_counted counted = turbelicus_list_count(list->bytes, list->length);
+    if (counted.refused != 0) return refuse("list", counted.refused);
+    list->count = counted.count;
+    return EXIT_SUCCESS;
+}
+
+static void print_arcseconds(int64_t angle) {
+    long long size = angle < 0 ? -angle : angle;
+    printf(" %s%lld.%06lld", angle < 0 ? "-" : "", size / 1000000, size % 1000000);
+}
+
+static void print_target(size_t number, const struct turbelicus_placed *placed) {
+    printf("%u", (unsigned)number);
+    if (placed->altitude < LOWEST) {
+        printf(" below\n");
+        return;
+    }
+    print_arcseconds(placed->azimuth);
+    print_arcseconds(placed->altitude);
+    printf("\n");
+}
+
+static int print_targets(const struct list *list, const int32_t *at) {
+    for (size_t i = 0; i < list->count; i++) {
+        struct turbelicus_starred star = turbelicus_list_star(list->bytes, list->length, i);
+        if (star.refused != 0) return refuse("star", star.refused);
+        struct turbelicus_placed placed = turbelicus_place(
+            at[YEAR], at[MONTH], at[DAY], at[HOUR], at[MINUTE], at[SECOND], 0, DIFFERENCE, LATITUDE, LONGITUDE, star.ra,
+            star.declination, star.ra_motion, star.declination_motion);
+        if (placed.refused != 0) return refuse("place", placed.refused);
+        print_target(i, &placed);
+    }
+    return EXIT_SUCCESS;
+}
+
+int main(int count, char **words) {
+    static struct list list;
+    int32_t at[PARTS];
+    if (count != 2 + PARTS) return fail("usage", "firmware LIST YEAR MONTH DAY HOUR MINUTE SECOND");
+    for (int i = 0; i < PARTS; i++) {
+        if (!is_number(words[2 + i], &at[i])) return fail("not a number", words[2 + i]);
+    }
+    if (read_list(words[1], &list) != EXIT_SUCCESS) return EXIT_FAILURE;
+    return print_targets(&list, at);
+}

@@ -1,0 +1,117 @@
+/* Turbelicus: the apparent place of a star, turns of a direction, the reading of an angle, and the star list file.
+ *
+ * Every function answers every number and every byte that it is given: there is none that C must test first. It keeps
+ * nothing from one call to the next, so that calls may go on side by side.
+ *
+ * Units: angles in microarcseconds (the circle is 1,296,000,000,000), motions in microarcseconds a year, parts of a
+ * direction in parts of 2^30.
+ *
+ * Refusals. An answer that may be refused is a struct. Its `refused` is 0 and the other fields are the answer; or it is
+ * the number of the first of these that applies, and the other fields are 0 and no byte that was lent has changed.
+ *
+ *    1  year not 1972 to 2099
+ *    2  no such month or day
+ *    3  no such time of day (second 60 exists at 23:59:60 of the day before a step of TAI-UTC alone)
+ *    4  UT1-UTC not within 900 ms
+ *    5  star: right ascension not 0 to 1,295,999,999,999, declination not within 324,000,000,000, or a motion not within
+ *       100,000,000
+ *    6  site: latitude not within 324,000,000,000 or longitude not within 648,000,000,000
+ *    7  direction not accepted: its squared length not within 2^32 of 2^60
+ *    8  axis not 1 to 3, or angle not strictly between -1,296,000,000,000 and 1,296,000,000,000
+ *    9  file under 7 bytes, wrong mark, or version not 1
+ *   10  more than 64 records, or file length not exactly that of its count
+ *   11  more than 64 stars given, or room too small for the file; no such record; or a star without all its numbers
+ *   12  instant outside a century of J2000, and
+ *   13  length to be divided by is nought: no function here answers with these two
+ *
+ * What C must keep. A pointer goes with its own length: so many elements are there to be read, or written where it is not
+ * const. It is null only with length 0. The room that is written overlaps nothing else that the same call is lent. */
+#ifndef TURBELICUS_H
+#define TURBELICUS_H
+
+#include <stddef.h>
+#include <stdint.h>
+
+#ifdef __cplusplus
+extern "C" {
+#endif
+
+struct turbelicus_placed {
+    int64_t refused, ra, declination, azimuth, altitude;
+};
+
+/* The place of a star at a moment and a site.
+ *
+ * Given: a UTC date and time of day, with UT1-UTC (difference) in ms; the site's latitude, and longitude positive east; the
+ * star's right ascension and declination of J2000, and their motions: that in right ascension is of the coordinate,
+ * without a cosine.
+ * Returned: apparent right ascension, 0 to 1,295,999,999,999, and declination, within 324,000,000,000; azimuth from north
+ * through east, and altitude, in the same ranges. Without refraction, parallax and polar motion.
+ * Refused: 1 to 6. */
+struct turbelicus_placed turbelicus_place(int32_t year, int32_t month, int32_t day, int32_t hour, int32_t minute,
+                                          int32_t second, int32_t ms, int32_t difference, int64_t latitude,
+                                          int64_t longitude, int64_t ra, int64_t declination, int32_t ra_motion,
+                                          int32_t declination_motion);
+
+struct turbelicus_turned {
+    int64_t refused, x, y, z;
+};
+
+/* A direction turned about an axis, and brought to length.
+ *
+ * Given: the direction; axis 1, 2 or 3 (x, y or z); the angle: a positive one about axis 3 goes from x towards y.
+ * Returned: the direction, which another turn accepts.
+ * Refused: 7, 8. */
+struct turbelicus_turned turbelicus_turn(int64_t x, int64_t y, int64_t z, int64_t axis, int64_t angle);
+
+/* The angle of (h, v), from h towards v.
+ *
+ * Given: any two numbers.
+ * Returned: 0 to 1,295,999,999,999; 0 for (0, 0).
+ * Refused: never. */
+int64_t turbelicus_reading(int32_t h, int32_t v);
+
+struct turbelicus_counted {
+    int64_t refused;
+    size_t count;
+};
+
+/* How many records a list file has.
+ *
+ * Given: the bytes of a whole file. It is `SLT`, version 1 and the count (16 bits each), then for each star right ascension
+ * and declination (64 bits, signed) and their motions (32 bits, signed), all little-endian: 7 + 24 count bytes.
+ * Returned: 0 to 64.
+ * Refused: 9, 10, 5, checked in this order; 5 where any of its stars is refused. */
+struct turbelicus_counted turbelicus_list_count(const uint8_t *file, size_t file_length);
+
+struct turbelicus_starred {
+    int64_t refused, ra, declination;
+    int32_t ra_motion, declination_motion;
+};
+
+/* A star of a list file. The file is checked whole at every call.
+ *
+ * Given: the bytes of a whole file; index, from 0.
+ * Returned: the star, which turbelicus_place accepts.
+ * Refused: 9, 10, 5, then 11 where the file has no such record. */
+struct turbelicus_starred turbelicus_list_star(const uint8_t *file, size_t file_length, size_t index);
+
+struct turbelicus_written {
+    int64_t refused;
+    size_t length;
+};
+
+/* A list file written at once, so that there never is a half of one.
+ *
+ * Given: numbers, four for each star: right ascension, declination and their motions; room, at least 7 bytes and 24 for
+ * each star.
+ * Returned: the file's length in bytes; the file stands at the start of room, and the bytes past it stay.
+ * Refused: 5, then 11. */
+struct turbelicus_written turbelicus_list_write(const int64_t *numbers, size_t numbers_length, uint8_t *room,
+                                                size_t room_length);
+
+#ifdef __cplusplus
+}
+#endif
+
+#endif
