@@ -54,28 +54,24 @@ pub extern "C" fn turbelicus_place(
         (siteOf latitude longitude))) ⌝ }
 {
     let moment = Moment {
-        date: Date {
-            year: year,
-            month: month,
-            day: day,
-        },
+        date: Date { year, month, day },
         time: Time {
-            hour: hour,
-            minute: minute,
-            second: second,
-            ms: ms,
+            hour,
+            minute,
+            second,
+            ms,
         },
-        difference: difference,
+        difference,
     };
     let star = Star {
-        ra: ra,
-        declination: declination,
-        ra_motion: ra_motion,
-        declination_motion: declination_motion,
+        ra,
+        declination,
+        ra_motion,
+        declination_motion,
     };
     let site = Site {
-        latitude: latitude,
-        longitude: longitude,
+        latitude,
+        longitude,
     };
     placed_out(place::place(moment, star, site))
 }

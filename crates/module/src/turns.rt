@@ -28,7 +28,7 @@ pub struct TurbelicusTurned {
 pub extern "C" fn turbelicus_turn(x: i64, y: i64, z: i64, axis: i64, angle: i64) -> TurbelicusTurned
     ensures { λ r. ⌜ r ≡ turnedOut (turnedAnswer (rule.turned axis angle (directionOf x y z))) ⌝ }
 {
-    turned_out(turning::turn(Direction { x: x, y: y, z: z }, axis, angle))
+    turned_out(turning::turn(Direction { x, y, z }, axis, angle))
 }
 
 // The angle of (h, v).

@@ -142,8 +142,7 @@ fn fuzzed_file(chance: &mut Chance) -> Vec<u8> {
 #[test]
 fn files() {
     let mut chance = Chance::new("fuzz, counts");
-    let calls =
-        (0..FILES).map(|_| Call { given: [], read: fuzzed_file(&mut chance), room: noise(&mut chance, 8) });
+    let calls = (0..FILES).map(|_| Call { given: [], read: fuzzed_file(&mut chance), room: Vec::new() });
     compare_lent(&LIST_COUNT, "fuzz", calls, list_count);
 
     let mut chance = Chance::new("fuzz, stars");
