@@ -43,7 +43,9 @@ star-index-le file index s e = go (listCount file) refl e
 
 -- ---- the night that a file and a line come to
 
-prepared-is : (b : Bool) (m n : Night) → cond b (Prepared.Refused Refusal.Site) (Prepared.For m) ≡ Prepared.For n → m ≡ n
+prepared-is : (b : Bool) (m n : Night)
+    → cond b (Prepared.Refused Refusal.Site) (Prepared.For m) ≡ Prepared.For n
+    → m ≡ n
 prepared-is true m n e = let z : true ≡ false = cc in true-not-false z
 prepared-is false m n e = cc
 
@@ -54,9 +56,11 @@ prepared-fits m site n e = go (instants m) refl e
     go : (i : Instants) → instants m ≡ i → nightAt i site ≡ Prepared.For n → NightFits n
     go (Instants.Refused r) f g = let z : true ≡ false = cc in true-not-false z
     go (Instants.At ut utc) f g =
-        subst NightFits (prepared-is (siteRefused site) (night ut utc site) n g) (night-fits ut utc site (tt-within m ut utc f))
+        subst NightFits (prepared-is (siteRefused site) (night ut utc site) n g)
+        (night-fits ut utc site (tt-within m ut utc f))
 
-begun-in-fits : (m : Moment) (site : Site) (c count : ℕ) (n : Night) → begunIn c (nightOf m site) ≡ Begun.For count n → NightFits n
+begun-in-fits : (m : Moment) (site : Site) (c count : ℕ) (n : Night) → begunIn c (nightOf m site) ≡ Begun.For count n
+    → NightFits n
 unfolding begunIn
 begun-in-fits m site c count n e = go (nightOf m site) refl e
   where
@@ -64,7 +68,8 @@ begun-in-fits m site c count n e = go (nightOf m site) refl e
     go (Prepared.Refused r) f g = let z : true ≡ false = cc in true-not-false z
     go (Prepared.For k) f g = let z : k ≡ n = cc in prepared-fits m site n (f ∙ ap Prepared.For z)
 
-pub begun-fits : (l : Listed) (asked : Asked) (count : ℕ) (n : Night) → begunOf l asked ≡ Begun.For count n → NightFits n
+pub begun-fits : (l : Listed) (asked : Asked) (count : ℕ) (n : Night) → begunOf l asked ≡ Begun.For count n
+    → NightFits n
 unfolding begunOf begunFor
 begun-fits (Listed.Refused r) asked count n e = let z : true ≡ false = cc in true-not-false z
 begun-fits (Listed.Count c) Asked.Other count n e = let z : true ≡ false = cc in true-not-false z

@@ -1,4 +1,4 @@
--- Our own program `places`, not document 01: what it reads and what it prints, as definitions, and what is known of them.
+-- Our own program `places`, not document 01: what it reads and prints, as definitions, and what is known of them.
 pub mod Asking
 pub mod Sexagesimal
 pub mod Answers

@@ -26,5 +26,6 @@ more {room} {at} {row} {out} {next} p next′ further out′ e f = record {
 }
 
 -- the room keeps its length
-pub put-length : {room : List ℕ} {at : ℕ} {row out : List ℕ} {next : ℕ} → Put room at row out next → length out ≡ length room
+pub put-length : {room : List ℕ} {at : ℕ} {row out : List ℕ} {next : ℕ} → Put room at row out next
+    → length out ≡ length room
 put-length {room} {at} {row} p = ap length (p .bytes) ∙ length-sets room at row

@@ -90,7 +90,8 @@ pub first-word-is : (bs : List ℕ) (n : ℕ) → n ≡ wordLength bs → take n
 unfolding firstWord
 first-word-is bs n e = ap (λ k. take k bs) e
 
-pub after-word-is : (bs : List ℕ) (n : ℕ) → n ≡ wordLength bs → take (length bs - (n + 1)) (drop (n + 1) bs) ≡ afterWord bs
+pub after-word-is : (bs : List ℕ) (n : ℕ) → n ≡ wordLength bs
+    → take (length bs - (n + 1)) (drop (n + 1) bs) ≡ afterWord bs
 unfolding afterWord
 after-word-is bs n e = to-end bs (n + 1) ∙ ap (λ k. drop (k + 1) bs) e
 

@@ -1,5 +1,5 @@
-// Lines of the program `places`: a line read, and a line of the answer printed. The program is our own, and not
-// document 01's.
+// Lines of the program `places`, our own and not document 01's: a line read, and a line of the
+// answer printed.
 ghost use mathlib.Core.Path.{_≡_};
 ghost use Prim.Native.Nat.{ℕ, _≤_};
 ghost use lib.ListN.{length};
@@ -29,8 +29,8 @@ pub enum Asked {
     Other,
 }
 
-// What a file and a line come to: how many entries there are and their night, or the number of the refusal,
-// 0 for a line of another form.
+// What a file and a line come to: how many entries there are and their night, or the number of the
+// refusal, 0 for a line of another form.
 pub enum Begun {
     For(usize, Night),
     Refused(i64),
@@ -39,8 +39,8 @@ pub enum Begun {
 // What a file and a line come to.
 //
 // Given: file and line, any bytes; the line without its end.
-// Returned: how many entries the file has, and the night of the line's moment and site; or the number of the
-// refusal: of the file 9, 10, 5, then 0 for a line of another form, then of date and site 1 to 4, 6.
+// Returned: how many entries the file has, and the night of the line's moment and site; or the number
+// of the refusal: of the file 9, 10, 5, then 0 for a line of another form, then 1 to 4, 6.
 // Rule: specs/Answers.antt.
 pub fn begin(file: &[u8], line: &[u8]) -> Begun
     ensures { λ r. ⌜ r ≡ rule.begun (now (file .entry)) (now (line .entry)) ⌝ }
@@ -74,9 +74,10 @@ fn begin_in(count: usize, prepared: Prepared) -> Begun
 
 // The line of an entry of a file, without its end.
 //
-// Given: file, any bytes; night, as `begin` gives it; index, from 0; whether angles are printed for people;
-// room for the line.
-// Returned: the length of the line, which stands at the front of the room; the rest of the room stays.
+// Given: file, any bytes; night, as `begin` gives it; index, from 0; whether angles are printed for
+// people; room for the line.
+// Returned: the length of the line, which stands at the front of the room; the rest of the room
+// stays.
 // Rule: specs/Answers.antt.
 pub fn print_entry(file: &[u8], night: Night, index: usize, people: bool, out: &mut [u8]) -> usize
     requires { ⌜ (NightFits night) × (128 ≤ length (now out)) ⌝ }

@@ -81,7 +81,8 @@ pub fn put_people(place: Place, at: usize, out: &mut [u8]) -> usize
 pub fn put_entry(index: usize, entry: Entry, people: bool, out: &mut [u8]) -> usize
     requires { ⌜ (index ≤ 64) × (128 ≤ length (now out)) ⌝ }
     ensures { λ r. ⌜ r ≡ length (rule.entryLine people index entry) ⌝ }
-    ensures { λ _. ⌜ now (out .exit) ≡ sets (now (out .entry)) 0 (rule.entryLine people index entry) ⌝ }
+    ensures { λ _. ⌜ now (out .exit)
+        ≡ sets (now (out .entry)) 0 (rule.entryLine people index entry) ⌝ }
 {
     let a = put(index as i64, 0, out);
     let b = put_spaced(entry.mark as i64, a, out);

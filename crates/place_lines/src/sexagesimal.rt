@@ -14,7 +14,8 @@ use whole::rnd_quotient;
 pub fn put_marked(mark: u8, n: i64, digits: usize, at: usize, out: &mut [u8]) -> usize
     requires { ⌜ (digits ≤ 2) × (at + 3 ≤ length (now out)) ⌝ }
     ensures { λ r. ⌜ r ≡ at + length (rule.marked mark digits (natAbs n)) ⌝ }
-    ensures { λ _. ⌜ now (out .exit) ≡ sets (now (out .entry)) at (rule.marked mark digits (natAbs n)) ⌝ }
+    ensures { λ _. ⌜ now (out .exit)
+        ≡ sets (now (out .entry)) at (rule.marked mark digits (natAbs n)) ⌝ }
 {
     out[at] = mark;
     put_digits(n, digits, at + 1, out);
@@ -25,7 +26,8 @@ pub fn put_marked(mark: u8, n: i64, digits: usize, at: usize, out: &mut [u8]) ->
 pub fn put_clock(seconds: i64, width: usize, at: usize, out: &mut [u8]) -> usize
     requires { ⌜ (width ≤ 3) × (at + 9 ≤ length (now out)) ⌝ }
     ensures { λ r. ⌜ r ≡ at + length (rule.clock width (natAbs seconds)) ⌝ }
-    ensures { λ _. ⌜ now (out .exit) ≡ sets (now (out .entry)) at (rule.clock width (natAbs seconds)) ⌝ }
+    ensures { λ _. ⌜ now (out .exit)
+        ≡ sets (now (out .entry)) at (rule.clock width (natAbs seconds)) ⌝ }
 {
     put_digits(seconds / 3600, width, at, out);
     let a = put_marked(58, seconds / 60 % 60, 2, at + width, out);
@@ -83,7 +85,8 @@ pub fn sign_of(n: i64) -> u8
 pub fn put_elevation(angle: i64, at: usize, out: &mut [u8]) -> usize
     requires { ⌜ at + 14 ≤ length (now out) ⌝ }
     ensures { λ r. ⌜ r ≡ at + length (spaced (rule.elevation angle)) ⌝ }
-    ensures { λ _. ⌜ now (out .exit) ≡ sets (now (out .entry)) at (spaced (rule.elevation angle)) ⌝ }
+    ensures { λ _. ⌜ now (out .exit)
+        ≡ sets (now (out .entry)) at (spaced (rule.elevation angle)) ⌝ }
 {
     let n = rnd_quotient(angle, 100000);
     out[at] = 32;

@@ -3,22 +3,23 @@
 //   places FILE [sexagesimal]
 //
 // Standard input: one line, `YYYY-MM-DD hh:mm:ss.mmm d latitude longitude`, angles in µas.
-// Standard output: a header and a line for each entry, or `refused N`. What went wrong with the arguments or with reading
-// goes to standard error, and then nothing to standard output.
+// Standard output: a header and a line for each entry, or `refused N`. What went wrong with the
+// arguments or with reading goes to standard error, and then nothing to standard output.
 ghost use mathlib.Core.Path.{_≡_};
 ghost use Prim.Native.Nat.{ℕ, _≤_};
 ghost use Rattle.laws.specs.Night.{NightFits};
 use place_lines::Begun;
 use rules::Night;
 
-// A line: its first bytes, as many as there is room for. A longer line is of another form, and so is its start.
+// A line: its first bytes, as many as there is room for. A longer line is of another form, and so is
+// its start.
 pub struct Start {
     pub bytes: [u8; 64],
     pub len: usize,
 }
 
-// A file: its first bytes, and whether it could be read. There is room for 7 + 24 * 64 bytes, the longest file that is
-// accepted, and a byte more: a longer one is refused by what is read of it.
+// A file: its first bytes, and whether it could be read. There is room for 7 + 24 * 64 bytes, the
+// longest file that is accepted, and a byte more: a longer one is refused by what is read of it.
 pub struct Contents {
     pub bytes: [u8; 1544],
     pub len: usize,
@@ -48,7 +49,8 @@ fn next_byte() -> u8 {
     byte[0]
 }
 
-// The first line of standard input, no byte of the second, and of a long line no more than tells its form.
+// The first line of standard input, no byte of the second, and of a long line no more than tells its
+// form.
 fn read_line() -> Start
     ensures { λ r. ⌜ r .len ≤ 64 ⌝ }
 {

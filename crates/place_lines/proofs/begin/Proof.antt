@@ -33,7 +33,8 @@ returns c =
     let s = c .before .before .before .before .before .before .before .before in
     c .begin-for .ensures ∙ ap (begunFor (c .before .before .before .count .given .0 .0)) (c .before .asked-of .ensures)
     ∙ ap (λ l. begunOf l (askedOf (s .args .line .now)))
-    (sym (sym (c .before .before .before .before .before .list-count .ensures) ∙ c .before .before .before .count .given .1))
+    (sym (sym (c .before .before .before .before .before .list-count .ensures)
+    ∙ c .before .before .before .count .given .1))
 
 returns-2 : tie.Need-returns-2
 unfolding begun begunOf

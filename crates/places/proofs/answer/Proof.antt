@@ -38,7 +38,8 @@ array-share-prefix-bytes : tie.Need-array-share-prefix-bytes
 array-share-prefix-bytes c = file-inside (c .before .before .before .before .before)
 
 slice-aggregate-print-answer : tie.Need-slice-aggregate-print-answer
-slice-aggregate-print-answer c = sym (length-take-le _ _ (file-inside (c .before .before .before .before .before .before)))
+slice-aggregate-print-answer c = sym
+    (length-take-le _ _ (file-inside (c .before .before .before .before .before .before)))
 
 array-share-prefix-text : tie.Need-array-share-prefix-text
 array-share-prefix-text c = line-inside (c .before .before .before)

@@ -12,7 +12,8 @@ enum-known-begun : tie.Need-enum-known-begun
 enum-known-begun c = search needs
 
 print-entries-requires : tie.Need-print-entries-requires
-print-entries-requires c κs = night-of-begun _ _ _ _ (sym (c .before .before .before .begin .ensures) ∙ c .before .begun .given .1)
+print-entries-requires c κs = night-of-begun _ _ _ _
+    (sym (c .before .before .before .begin .ensures) ∙ c .before .begun .given .1)
 
 enum-known-begun-2 : tie.Need-enum-known-begun-2
 enum-known-begun-2 c = search needs

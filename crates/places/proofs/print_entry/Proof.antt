@@ -42,7 +42,8 @@ array-share-prefix-out : tie.Need-array-share-prefix-out
 array-share-prefix-out c = inside (c .before)
 
 slice-aggregate-write-all : tie.Need-slice-aggregate-write-all
-slice-aggregate-write-all c = let p = c .before .before in sym (length-take-le (p .print-entry .result + 1) _ (inside p))
+slice-aggregate-write-all c = let p = c .before .before in sym
+    (length-take-le (p .print-entry .result + 1) _ (inside p))
 
 write-all-requires : tie.Need-write-all-requires
 write-all-requires c κs = search needs

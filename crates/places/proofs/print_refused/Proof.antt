@@ -35,12 +35,18 @@ module _ (c : tie.After-put-refused) where
 
   end-le : c .put-refused .result ≤ 28
   end-le =
-      omega (arith, rw (toZ-ofZ (start .fits .number)) at (c .put-refused .ensures .0), refused-le (start .args .number) (start .fits .number))
+      omega (
+        arith,
+        rw (toZ-ofZ (start .fits .number)) at (c .put-refused .ensures .0),
+        refused-le
+            (start .args .number) (start .fits .number),
+      )
 
   inside : c .put-refused .result + 1 ≤ length (set (c .put-refused .last .1 .0) (c .put-refused .result) 10)
   inside =
       let l : length (c .put-refused .last .1 .0) ≡ 64 =
-      kept (replicate 64 0) (refusedText ++ decimal (toZ w64 (ofZ w64 (start .args .number)))) (c .put-refused .ensures .1) in
+      kept (replicate 64 0) (refusedText ++ decimal (toZ w64 (ofZ w64 (start .args .number))))
+      (c .put-refused .ensures .1) in
       simp length-set (omega (arith, end-le))
 
 array-write-out : tie.Need-array-write-out
@@ -53,7 +59,8 @@ array-share-prefix-out : tie.Need-array-share-prefix-out
 array-share-prefix-out c = inside (c .before)
 
 slice-aggregate-write-all : tie.Need-slice-aggregate-write-all
-slice-aggregate-write-all c = let p = c .before .before in sym (length-take-le (p .put-refused .result + 1) _ (inside p))
+slice-aggregate-write-all c = let p = c .before .before in sym
+    (length-take-le (p .put-refused .result + 1) _ (inside p))
 
 write-all-requires : tie.Need-write-all-requires
 write-all-requires c κs = search needs

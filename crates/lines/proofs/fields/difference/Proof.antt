@@ -33,7 +33,8 @@ module _ (c : tie.After-signed) where
   r-is = toZ-ofZ {w = w64} (sfits-of (c .signed .ok))
 
   fits : SFits w32 (toZ w64 (bits r))
-  fits = rw r-is (fits32 r (omega (arith, c .signed .ensures .1, most-le (length (unsigned (start .args .s .now))) (digits-le start))))
+  fits = rw r-is (fits32 r
+      (omega (arith, c .signed .ensures .1, most-le (length (unsigned (start .args .s .now))) (digits-le start))))
 
 cast-result : tie.Need-cast-result
 cast-result c = fits c

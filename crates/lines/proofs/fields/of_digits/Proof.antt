@@ -43,7 +43,9 @@ one : (s : List ℕ) (i : ℕ) (b : Bool) → i < length s → isDigit (getD s i
     → b && ofForm (drop (i + 1) (digits (length s))) (drop (i + 1) s) ≡ ofForm (digits (length s)) s
 one s i b h e w = rw e at (sym (digits-step s (length s) i h h) ∙ w)
 
-whole : (most : ℕ) (s : List ℕ) (b : Bool) → 1 ≤ length s → length s ≤ most → b ≡ ofForm (digits (length s)) s → b ≡ ofDigits most s
+whole : (most : ℕ) (s : List ℕ) (b : Bool) → 1 ≤ length s → length s ≤ most
+    → b ≡ ofForm (digits (length s)) s
+    → b ≡ ofDigits most s
 unfolding ofDigits
 whole most s b h k e = rw (le-leb 1 (length s) h, le-leb (length s) most k) e
 
@@ -78,7 +80,8 @@ returns-4 : tie.Need-returns-4 Inv-loop μ-loop
 returns-4 c =
     let a = c .before in
     let s = a .before .before .before .before .args .s .now in
-    whole (a .before .before .before .before .args .most) s true (omega arith) (omega arith) (at-end s (a .loop .i) _ (omega arith) (a .loop .inv .1))
+    whole (a .before .before .before .before .args .most) s true (omega arith) (omega arith)
+    (at-end s (a .loop .i) _ (omega arith) (a .loop .inv .1))
 
 pub of-digits-spec : {M : Type 1} → statement M
 of-digits-spec =

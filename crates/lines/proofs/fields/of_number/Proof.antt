@@ -46,7 +46,8 @@ unfolding ofNumber
 returns-2 c =
     let a = c .before in
     let s = a .before .before .before .args .s .now in
-    c .of-digits2 .ensures ∙ ap (ofDigits (a .before .before .before .args .most)) (sym (unsigned-is s false (minus (a .before) false (a .if1 .left))))
+    c .of-digits2 .ensures ∙ ap (ofDigits (a .before .before .before .args .most))
+    (sym (unsigned-is s false (minus (a .before) false (a .if1 .left))))
 
 pub of-number-spec : {M : Type 1} → statement M
 of-number-spec =

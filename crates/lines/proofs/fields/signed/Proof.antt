@@ -41,7 +41,8 @@ spelled-requires : tie.Need-spelled-requires
 spelled-requires c κs =
     let a = c .before in
     let s = a .before .before .before in
-    rw (to-end (s .args .s .now) 1, ← unsigned-is (s .args .s .now) true (minus (a .before) true (a .if1 .taken))) (unsigned-le s)
+    rw (to-end (s .args .s .now) 1, ← unsigned-is (s .args .s .now) true (minus (a .before) true (a .if1 .taken)))
+    (unsigned-le s)
 
 module _ (c : tie.After-spelled) where
   abbrev bytes : List ℕ
@@ -50,7 +51,8 @@ module _ (c : tie.After-spelled) where
   minus-sign : negative bytes ≡ true
   minus-sign = minus (c .before .before .before) true (c .before .before .if1 .taken)
 
-  told : (c .spelled .result ≡ pos (spelled 0 (unsigned bytes))) × (natAbs (c .spelled .result) ≤ most (length (unsigned bytes)))
+  told : (c .spelled .result ≡ pos (spelled 0 (unsigned bytes))) ×
+      (natAbs (c .spelled .result) ≤ most (length (unsigned bytes)))
   told = rw (to-end bytes 1, ← unsigned-is bytes true minus-sign) at (c .spelled .ensures)
 
   size-le : spelled 0 (unsigned bytes) ≤ 2 ^ 45

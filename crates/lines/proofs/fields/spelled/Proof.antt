@@ -25,7 +25,8 @@ loop-holds c = (omega arith, (omega arith, refl))
 
 so-far : (c : tie.In-loop Inv-loop μ-loop) → Holds (c .before .loop .n) (pos (c .before .loop .n)) (2 ^ 45)
 so-far c =
-    nat (c .before .loop .n) (omega (arith, c .before .loop .inv .1 .0, most-le-12 (c .before .loop .i) (omega arith))) tt
+    nat (c .before .loop .n)
+    (omega (arith, c .before .loop .inv .1 .0, most-le-12 (c .before .loop .i) (omega arith))) tt
 
 mul-n : tie.Need-mul-n Inv-loop μ-loop
 mul-n c = mul-ok (lit 10 tt) (so-far c) tt

@@ -14,7 +14,8 @@ use Rattle.place_lines.proofs.asking.asked_of.Statement.{statement}
 use Rattle.place_lines.proofs.asking.asked_of.Tie as tie
 
 returns : tie.Need-returns
-returns c = let line = c .before .before .args .line .now in sym (asked-short line (omega (arith, end-ge line, c .if1 .taken)))
+returns c = let line = c .before .before .args .line .now in sym
+    (asked-short line (omega (arith, end-ge line, c .if1 .taken)))
 
 sub-word-length : tie.Need-sub-word-length
 sub-word-length c = search needs

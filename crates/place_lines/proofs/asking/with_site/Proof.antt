@@ -48,7 +48,8 @@ add-next : tie.Need-add-next
 add-next c = search needs
 
 slice-aggregate-of-number : tie.Need-slice-aggregate-of-number
-slice-aggregate-of-number c = let w = c .before .before in sym (length-take-le (w .word-length .result) (text w) (inside w))
+slice-aggregate-of-number c = let w = c .before .before in sym
+    (length-take-le (w .word-length .result) (text w) (inside w))
 
 of-number-requires : tie.Need-of-number-requires
 of-number-requires c κs = search needs
@@ -59,7 +60,8 @@ module _ (c : tie.After-of-number) where
 
   first-is : (b : Bool) → c .of-number .result ≡ b → ofNumber 12 (firstWord (text v)) ≡ b
   first-is b e =
-      sym (ap (ofNumber 12) (first-word-is (text v) (v .word-length .result) (n-is v))) ∙ sym (c .of-number .ensures) ∙ e
+      sym (ap (ofNumber 12) (first-word-is (text v) (v .word-length .result) (n-is v))) ∙ sym (c .of-number .ensures)
+      ∙ e
 
 returns-2 : tie.Need-returns-2
 unfolding withSite ofSite
@@ -83,14 +85,20 @@ module _ (c : tie.After-of-number2) where
 
   after-is : (b : Bool) → c .of-number2 .result ≡ b → ofNumber 12 (afterWord (text (v o))) ≡ b
   after-is b e =
-      sym (ap (ofNumber 12) (after-word-is (text (v o)) (v o .word-length .result) (n-is (v o)))) ∙ sym (c .of-number2 .ensures) ∙ e
+      sym (ap (ofNumber 12) (after-word-is (text (v o)) (v o .word-length .result) (n-is (v o))))
+      ∙ sym (c .of-number2 .ensures) ∙ e
 
 returns-3 : tie.Need-returns-3
 unfolding withSite ofSite
-returns-3 c = rw (first-is (o (c .before)) true (not-false _ (c .before .before .before .if2 .left)), after-is (c .before) false (not-true _ (c .if3 .taken)))
+returns-3 c = rw (
+  first-is (o (c .before)) true (not-false _ (c .before .before .before .if2 .left)),
+  after-is
+      (c .before) false (not-true _ (c .if3 .taken)),
+)
 
 slice-aggregate-signed : tie.Need-slice-aggregate-signed
-slice-aggregate-signed c = let w = v (o (c .before .before)) in sym (length-take-le (w .word-length .result) (text w) (inside w))
+slice-aggregate-signed c = let w = v (o (c .before .before)) in sym
+    (length-take-le (w .word-length .result) (text w) (inside w))
 
 signed-requires : tie.Need-signed-requires
 signed-requires c κs =

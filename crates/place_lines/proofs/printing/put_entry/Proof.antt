@@ -38,13 +38,21 @@ module _ (c : tie.After-put) where
 
   put-1 : Put (start .args .out .now) 0 (decimal (pos (start .args .index))) (c .put .last .1 .1 .0) (c .put .result)
   put-1 =
-      more (none-put (start .args .out .now) 0) (c .put .result) (decimal (pos (start .args .index))) (c .put .last .1 .1 .0)
+      more (none-put (start .args .out .now) 0) (c .put .result) (decimal (pos (start .args .index)))
+      (c .put .last .1 .1 .0)
       (rw (index-is start) at (c .put .ensures .1)) (rw (index-is start) at (c .put .ensures .0))
 
 put-spaced-requires : tie.Need-put-spaced-requires
 put-spaced-requires c κs =
     let x = c .before .before .before .before in
-    omega (arith, start x .pre, put-1 x .end, put-length (put-1 x), number-le (pos (start x .args .index)) (index-le (start x)))
+    omega (
+      arith,
+      start x .pre,
+      put-1 x .end,
+      put-length (put-1 x),
+      number-le (pos (start x .args .index))
+          (index-le (start x)),
+    )
 
 abbrev head : tie.Start → List ℕ
 head s = decimal (pos (s .args .index)) ++ spaced (decimal (pos (s .args .entry .mark)))
@@ -61,7 +69,8 @@ module _ (c : tie.After-put-spaced) where
 
   put-2 : Put (start a .args .out .now) 0 (head (start a)) (c .put-spaced .last .1 .1 .0) (c .put-spaced .result)
   put-2 =
-      more (put-1 a) (c .put-spaced .result) (spaced (decimal (pos (start a .args .entry .mark)))) (c .put-spaced .last .1 .1 .0)
+      more (put-1 a) (c .put-spaced .result) (spaced (decimal (pos (start a .args .entry .mark))))
+      (c .put-spaced .last .1 .1 .0)
       (rw mark-is at (c .put-spaced .ensures .1)) (rw mark-is at (c .put-spaced .ensures .0))
 
   head-le : length (head (start a)) ≤ 41
@@ -90,7 +99,8 @@ module _ (c : tie.After-put-people) where
 
   put-3 : Put (s3 .args .out .now) 0 (head s3 ++ peopleAngles (s3 .args .entry .place))
       (c .put-people .last .1 .1 .0) (c .put-people .result)
-  put-3 = more (put-2 b3) (c .put-people .result) (peopleAngles (s3 .args .entry .place)) (c .put-people .last .1 .1 .0) (c .put-people .ensures .1) (c .put-people .ensures .0)
+  put-3 = more (put-2 b3) (c .put-people .result) (peopleAngles (s3 .args .entry .place))
+      (c .put-people .last .1 .1 .0) (c .put-people .ensures .1) (c .put-people .ensures .0)
 
 same-length : tie.Need-same-length
 same-length c = search needs
@@ -118,7 +128,8 @@ module _ (c : tie.After-put-plain) where
 
   put-4 : Put (s4 .args .out .now) 0 (head s4 ++ plainAngles (s4 .args .entry .place))
       (c .put-plain .last .1 .1 .0) (c .put-plain .result)
-  put-4 = more (put-2 b4) (c .put-plain .result) (plainAngles (s4 .args .entry .place)) (c .put-plain .last .1 .1 .0) (c .put-plain .ensures .1) (c .put-plain .ensures .0)
+  put-4 = more (put-2 b4) (c .put-plain .result) (plainAngles (s4 .args .entry .place)) (c .put-plain .last .1 .1 .0)
+      (c .put-plain .ensures .1) (c .put-plain .ensures .0)
 
 same-length-2 : tie.Need-same-length-2
 same-length-2 c = search needs

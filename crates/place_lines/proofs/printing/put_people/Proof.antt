@@ -43,9 +43,11 @@ module _ (c : tie.After-put-hours) where
   ra-le : length (hour (place .ra)) ≤ 21
   ra-le = omega (arith, hours-length (place .ra))
 
-  put-1 : Put (start .args .out .now) (start .args .at) (hour (place .ra)) (c .put-hours .last .1 .1 .0) (c .put-hours .result)
+  put-1 : Put (start .args .out .now) (start .args .at) (hour (place .ra)) (c .put-hours .last .1 .1 .0)
+      (c .put-hours .result)
   put-1 =
-      more (none-put (start .args .out .now) (start .args .at)) (c .put-hours .result) (hour (place .ra)) (c .put-hours .last .1 .1 .0)
+      more (none-put (start .args .out .now) (start .args .at)) (c .put-hours .result) (hour (place .ra))
+      (c .put-hours .last .1 .1 .0)
       (rw (toZ-ofZ ra-fits) at (c .put-hours .ensures .1)) (rw (toZ-ofZ ra-fits) at (c .put-hours .ensures .0))
 
 put-elevation-requires : tie.Need-put-elevation-requires
@@ -67,7 +69,8 @@ module _ (c : tie.After-put-elevation) where
       (c .put-elevation .last .1 .1 .0) (c .put-elevation .result)
   put-2 =
       more (put-1 c1) (c .put-elevation .result) (height (place c1 .declination)) (c .put-elevation .last .1 .1 .0)
-      (rw (toZ-ofZ declination-fits) at (c .put-elevation .ensures .1)) (rw (toZ-ofZ declination-fits) at (c .put-elevation .ensures .0))
+      (rw (toZ-ofZ declination-fits) at (c .put-elevation .ensures .1))
+      (rw (toZ-ofZ declination-fits) at (c .put-elevation .ensures .0))
 
   next-2 : c .put-elevation .result ≡ c1 .put-hours .result + length (height (place c1 .declination))
   next-2 = rw (toZ-ofZ declination-fits) at (c .put-elevation .ensures .0)
@@ -94,7 +97,8 @@ module _ (c : tie.After-put-bearing) where
   next-3 : c .put-bearing .result ≡ c2 .put-elevation .result + length (turn (p .azimuth))
   next-3 = rw (toZ-ofZ azimuth-fits) at (c .put-bearing .ensures .0)
 
-  put-3 : Put (start (c1 c2) .args .out .now) (start (c1 c2) .args .at) (hour (p .ra) ++ height (p .declination) ++ turn (p .azimuth))
+  put-3 : Put (start (c1 c2) .args .out .now) (start (c1 c2) .args .at)
+      (hour (p .ra) ++ height (p .declination) ++ turn (p .azimuth))
       (c .put-bearing .last .1 .1 .0) (c .put-bearing .result)
   put-3 =
       more (put-2 c2) (c .put-bearing .result) (turn (p .azimuth)) (c .put-bearing .last .1 .1 .0)
@@ -130,11 +134,13 @@ module _ (c : tie.After-put-elevation2) where
   altitude-fits : SFits w64 (q .altitude)
   altitude-fits = sfits-of {z = q .altitude} (c .before .struct-told4 .given .1 .1 .1 .0 .1)
 
-  put-4 : Put (s .args .out .now) (s .args .at) (hour (q .ra) ++ height (q .declination) ++ turn (q .azimuth) ++ height (q .altitude))
+  put-4 : Put (s .args .out .now) (s .args .at)
+      (hour (q .ra) ++ height (q .declination) ++ turn (q .azimuth) ++ height (q .altitude))
       (c .put-elevation2 .last .1 .1 .0) (c .put-elevation2 .result)
   put-4 =
       more (put-3 c3) (c .put-elevation2 .result) (height (q .altitude)) (c .put-elevation2 .last .1 .1 .0)
-      (rw (toZ-ofZ altitude-fits) at (c .put-elevation2 .ensures .1)) (rw (toZ-ofZ altitude-fits) at (c .put-elevation2 .ensures .0))
+      (rw (toZ-ofZ altitude-fits) at (c .put-elevation2 .ensures .1))
+      (rw (toZ-ofZ altitude-fits) at (c .put-elevation2 .ensures .0))
 
 same-length : tie.Need-same-length
 same-length c = search needs

@@ -41,9 +41,11 @@ module _ (c : tie.After-put-spaced) where
   ra-le : length (row (place .ra)) ≤ 21
   ra-le = row-le (place .ra) ra-fits
 
-  put-1 : Put (start .args .out .now) (start .args .at) (row (place .ra)) (c .put-spaced .last .1 .1 .0) (c .put-spaced .result)
+  put-1 : Put (start .args .out .now) (start .args .at) (row (place .ra)) (c .put-spaced .last .1 .1 .0)
+      (c .put-spaced .result)
   put-1 =
-      more (none-put (start .args .out .now) (start .args .at)) (c .put-spaced .result) (row (place .ra)) (c .put-spaced .last .1 .1 .0)
+      more (none-put (start .args .out .now) (start .args .at)) (c .put-spaced .result) (row (place .ra))
+      (c .put-spaced .last .1 .1 .0)
       (rw (toZ-ofZ ra-fits) at (c .put-spaced .ensures .1)) (rw (toZ-ofZ ra-fits) at (c .put-spaced .ensures .0))
 
 put-spaced-requires-2 : tie.Need-put-spaced-requires-2
@@ -65,7 +67,8 @@ module _ (c : tie.After-put-spaced2) where
       (c .put-spaced2 .last .1 .1 .0) (c .put-spaced2 .result)
   put-2 =
       more (put-1 c1) (c .put-spaced2 .result) (row (place c1 .declination)) (c .put-spaced2 .last .1 .1 .0)
-      (rw (toZ-ofZ declination-fits) at (c .put-spaced2 .ensures .1)) (rw (toZ-ofZ declination-fits) at (c .put-spaced2 .ensures .0))
+      (rw (toZ-ofZ declination-fits) at (c .put-spaced2 .ensures .1))
+      (rw (toZ-ofZ declination-fits) at (c .put-spaced2 .ensures .0))
 
   next-2 : c .put-spaced2 .result ≡ c1 .put-spaced .result + length (row (place c1 .declination))
   next-2 = rw (toZ-ofZ declination-fits) at (c .put-spaced2 .ensures .0)
@@ -92,7 +95,8 @@ module _ (c : tie.After-put-spaced3) where
   next-3 : c .put-spaced3 .result ≡ c2 .put-spaced2 .result + length (row (p .azimuth))
   next-3 = rw (toZ-ofZ azimuth-fits) at (c .put-spaced3 .ensures .0)
 
-  put-3 : Put (start (c1 c2) .args .out .now) (start (c1 c2) .args .at) (row (p .ra) ++ row (p .declination) ++ row (p .azimuth))
+  put-3 : Put (start (c1 c2) .args .out .now) (start (c1 c2) .args .at)
+      (row (p .ra) ++ row (p .declination) ++ row (p .azimuth))
       (c .put-spaced3 .last .1 .1 .0) (c .put-spaced3 .result)
   put-3 =
       more (put-2 c2) (c .put-spaced3 .result) (row (p .azimuth)) (c .put-spaced3 .last .1 .1 .0)
@@ -128,11 +132,13 @@ module _ (c : tie.After-put-spaced4) where
   altitude-fits : SFits w64 (q .altitude)
   altitude-fits = sfits-of {z = q .altitude} (c .before .struct-told4 .given .1 .1 .1 .0 .1)
 
-  put-4 : Put (s .args .out .now) (s .args .at) (row (q .ra) ++ row (q .declination) ++ row (q .azimuth) ++ row (q .altitude))
+  put-4 : Put (s .args .out .now) (s .args .at)
+      (row (q .ra) ++ row (q .declination) ++ row (q .azimuth) ++ row (q .altitude))
       (c .put-spaced4 .last .1 .1 .0) (c .put-spaced4 .result)
   put-4 =
       more (put-3 c3) (c .put-spaced4 .result) (row (q .altitude)) (c .put-spaced4 .last .1 .1 .0)
-      (rw (toZ-ofZ altitude-fits) at (c .put-spaced4 .ensures .1)) (rw (toZ-ofZ altitude-fits) at (c .put-spaced4 .ensures .0))
+      (rw (toZ-ofZ altitude-fits) at (c .put-spaced4 .ensures .1))
+      (rw (toZ-ofZ altitude-fits) at (c .put-spaced4 .ensures .0))
 
 same-length : tie.Need-same-length
 same-length c = search needs

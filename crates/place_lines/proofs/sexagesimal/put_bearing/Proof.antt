@@ -61,18 +61,21 @@ module _ (c : tie.After-put-parts) where
   unfolding roundIn
   m-is =
       c .before .before .modulo-of .ensures
-      ∙ ap (λ z. pos (modulo z 12960000)) (toZ-ofZ {w = w64} (sfits-of (c .before .before .before .rnd-quotient .ok)) ∙ rounded)
+      ∙ ap (λ z. pos (modulo z 12960000))
+      (toZ-ofZ {w = w64} (sfits-of (c .before .before .before .rnd-quotient .ok)) ∙ rounded)
 
   row-is : sexagesimal 3 (natAbs (toZ w64 (bits (quotZ (toZ w64 (bits m)) (pos 10))))) 1 (natAbs (toZ w64 (bits m)))
       ≡ bearing (start .args .angle)
   unfolding bearing
   row-is =
-      ap (λ k. sexagesimal 3 k 1 (natAbs (toZ w64 (bits m)))) (divided-size m 10 fits (lit< tt) ∙ ap (λ z. natAbs z / 10) m-is)
+      ap (λ k. sexagesimal 3 k 1 (natAbs (toZ w64 (bits m))))
+      (divided-size m 10 fits (lit< tt) ∙ ap (λ z. natAbs z / 10) m-is)
       ∙ ap (λ z. sexagesimal 3 (n / 10) 1 (natAbs z)) (toZ-ofZ fits ∙ m-is)
 
   bytes : c .put-parts .last .1 .1 .1 .1 .1 .0
       ≡ sets (start .args .out .now) (start .args .at) (spaced (bearing (start .args .angle)))
-  bytes = (rw (add-one (start .args .at)) at (c .put-parts .ensures .1)) ∙ ap (λ l. sets (set (start .args .out .now) (start .args .at) 32) (suc (start .args .at)) l) row-is
+  bytes = (rw (add-one (start .args .at)) at (c .put-parts .ensures .1))
+      ∙ ap (λ l. sets (set (start .args .out .now) (start .args .at) 32) (suc (start .args .at)) l) row-is
 
   end : c .put-parts .result ≡ (start .args .at + 1) + length (bearing (start .args .angle))
   end = c .put-parts .ensures .0 ∙ ap (λ l. (start .args .at + 1) + length l) row-is

@@ -36,17 +36,20 @@ module _ (s : tie.Start) where
   sixtieth = quot-fits (s .args .seconds) (pos 60) (s .fits .seconds) (ltZ-yes tt)
 
   -- minutes within an hour, and seconds within a minute, in 64 bits
-  minutes-is : natAbs (toZ w64 (bits (remZ (toZ w64 (bits (quotZ (toZ w64 (bits (s .args .seconds))) (pos 60)))) (pos 60))))
+  minutes-is : natAbs
+      (toZ w64 (bits (remZ (toZ w64 (bits (quotZ (toZ w64 (bits (s .args .seconds))) (pos 60)))) (pos 60))))
       ≡ natAbs (s .args .seconds) / 60 % 60
   minutes-is =
       rw (divided (s .args .seconds) 60 (s .fits .seconds) (lit< tt))
       (ap natAbs (toZ-ofZ (rem-fits (quotZ (s .args .seconds) (pos 60)) (pos 60) sixtieth))
       ∙ abs-rem (quotZ (s .args .seconds) (pos 60)) (pos 60) ∙ ap (λ n. n % 60) (abs-quot (s .args .seconds) (pos 60)))
 
-  seconds-is : natAbs (toZ w64 (bits (remZ (toZ w64 (bits (s .args .seconds))) (pos 60)))) ≡ natAbs (s .args .seconds) % 60
+  seconds-is : natAbs (toZ w64 (bits (remZ (toZ w64 (bits (s .args .seconds))) (pos 60))))
+      ≡ natAbs (s .args .seconds) % 60
   seconds-is =
       rw (toZ-ofZ (s .fits .seconds))
-      (ap natAbs (toZ-ofZ (rem-fits (s .args .seconds) (pos 60) (s .fits .seconds))) ∙ abs-rem (s .args .seconds) (pos 60))
+      (ap natAbs (toZ-ofZ (rem-fits (s .args .seconds) (pos 60) (s .fits .seconds)))
+      ∙ abs-rem (s .args .seconds) (pos 60))
 
 div-put-digits : tie.Need-div-put-digits
 div-put-digits c = let s = c .before in divided-ok (s .args .seconds) 3600 (s .fits .seconds) (lit< tt)
@@ -71,8 +74,11 @@ div-put-marked c = let s = start (c .before .before) in divided-ok (s .args .sec
 
 rem-put-marked : tie.Need-rem-put-marked
 rem-put-marked c =
-    let s = start (c .before .before) in
-    (lit< tt, rw (divided (s .args .seconds) 60 (s .fits .seconds) (lit< tt)) (quot-fits _ (pos 60) (sixtieth s) (ltZ-yes tt)))
+    let s = start (c .before .before) in (
+      lit< tt,
+      rw (divided (s .args .seconds) 60 (s .fits .seconds) (lit< tt))
+          (quot-fits _ (pos 60) (sixtieth s) (ltZ-yes tt)),
+    )
 
 add-put-marked : tie.Need-add-put-marked
 add-put-marked c = search needs
@@ -88,7 +94,8 @@ module _ (c : tie.After-put-marked) where
       (c .put-marked .last .1 .1 .1 .1 .0) (c .put-marked .result)
   put-2 =
       more (put-1 d) (c .put-marked .result) (minutes (start d)) (c .put-marked .last .1 .1 .1 .1 .0)
-      (rw (minutes-is (start d)) at (c .put-marked .ensures .1)) (rw (minutes-is (start d)) at (c .put-marked .ensures .0))
+      (rw (minutes-is (start d)) at (c .put-marked .ensures .1))
+      (rw (minutes-is (start d)) at (c .put-marked .ensures .0))
 
 rem-put-marked-2 : tie.Need-rem-put-marked-2
 rem-put-marked-2 c =

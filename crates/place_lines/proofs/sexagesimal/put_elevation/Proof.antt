@@ -55,7 +55,13 @@ put-parts-requires c κs =
       lit≤ tt,
       (
         lit≤ tt,
-        omega (arith, s .pre, length-set (s .args .out .now) (s .args .at) 32, length-set out (s .args .at + 1) (c .before .sign-of .result)),
+        omega (
+          arith,
+          s .pre,
+          length-set (s .args .out .now) (s .args .at) 32,
+          length-set out (s .args .at + 1)
+              (c .before .sign-of .result),
+        ),
       ),
     )
 
@@ -85,17 +91,22 @@ module _ (c : tie.After-put-parts) where
   sign-is : c .before .before .sign-of .result ≡ signOf (rnd angle 100000)
   sign-is = c .before .before .sign-of .ensures ∙ ap signOf (toZ-ofZ fits ∙ r-is)
 
-  row-is : sexagesimal 2 (natAbs (toZ w64 (bits (quotZ (toZ w64 (bits r)) (pos 10))))) 1 (natAbs (toZ w64 (bits r))) ≡ parts angle
+  row-is : sexagesimal 2 (natAbs (toZ w64 (bits (quotZ (toZ w64 (bits r)) (pos 10))))) 1 (natAbs (toZ w64 (bits r)))
+      ≡ parts angle
   row-is =
-      ap (λ k. sexagesimal 2 k 1 (natAbs (toZ w64 (bits r)))) (divided-size r 10 fits (lit< tt) ∙ ap (λ z. natAbs z / 10) r-is)
+      ap (λ k. sexagesimal 2 k 1 (natAbs (toZ w64 (bits r))))
+      (divided-size r 10 fits (lit< tt) ∙ ap (λ z. natAbs z / 10) r-is)
       ∙ ap (λ z. sexagesimal 2 (natAbs (rnd angle 100000) / 10) 1 (natAbs z)) (toZ-ofZ fits ∙ r-is)
 
-  bytes : c .put-parts .last .1 .1 .1 .1 .1 .0 ≡ sets (start .args .out .now) (start .args .at) (spaced (elevation angle))
+  bytes : c .put-parts .last .1 .1 .1 .1 .1 .0
+      ≡ sets (start .args .out .now) (start .args .at) (spaced (elevation angle))
   unfolding elevation
   bytes =
       (rw (two-more (start .args .at), add-one (start .args .at)) at (c .put-parts .ensures .1))
-      ∙ ap (λ l. sets (set (set (start .args .out .now) (start .args .at) 32) (suc (start .args .at)) (c .before .before .sign-of .result)) (suc (suc (start .args .at))) l) row-is
-      ∙ ap (λ b. sets (set (set (start .args .out .now) (start .args .at) 32) (suc (start .args .at)) b) (suc (suc (start .args .at))) (parts angle)) sign-is
+      ∙ ap (λ l. sets (set (set (start .args .out .now) (start .args .at) 32) (suc (start .args .at))
+      (c .before .before .sign-of .result)) (suc (suc (start .args .at))) l) row-is
+      ∙ ap (λ b. sets (set (set (start .args .out .now) (start .args .at) 32) (suc (start .args .at)) b)
+      (suc (suc (start .args .at))) (parts angle)) sign-is
 
   end : c .put-parts .result ≡ (start .args .at + 2) + length (parts angle)
   end = c .put-parts .ensures .0 ∙ ap (λ l. (start .args .at + 2) + length l) row-is

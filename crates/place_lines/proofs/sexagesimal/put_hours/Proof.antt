@@ -61,18 +61,21 @@ module _ (c : tie.After-put-parts) where
   unfolding roundIn
   m-is =
       c .before .before .modulo-of .ensures
-      ∙ ap (λ z. pos (modulo z 8640000)) (toZ-ofZ {w = w64} (sfits-of (c .before .before .before .rnd-quotient .ok)) ∙ rounded)
+      ∙ ap (λ z. pos (modulo z 8640000))
+      (toZ-ofZ {w = w64} (sfits-of (c .before .before .before .rnd-quotient .ok)) ∙ rounded)
 
   row-is : sexagesimal 2 (natAbs (toZ w64 (bits (quotZ (toZ w64 (bits m)) (pos 100))))) 2 (natAbs (toZ w64 (bits m)))
       ≡ hours (start .args .angle)
   unfolding hours
   row-is =
-      ap (λ k. sexagesimal 2 k 2 (natAbs (toZ w64 (bits m)))) (divided-size m 100 fits (lit< tt) ∙ ap (λ z. natAbs z / 100) m-is)
+      ap (λ k. sexagesimal 2 k 2 (natAbs (toZ w64 (bits m))))
+      (divided-size m 100 fits (lit< tt) ∙ ap (λ z. natAbs z / 100) m-is)
       ∙ ap (λ z. sexagesimal 2 (n / 100) 2 (natAbs z)) (toZ-ofZ fits ∙ m-is)
 
   bytes : c .put-parts .last .1 .1 .1 .1 .1 .0
       ≡ sets (start .args .out .now) (start .args .at) (spaced (hours (start .args .angle)))
-  bytes = (rw (add-one (start .args .at)) at (c .put-parts .ensures .1)) ∙ ap (λ l. sets (set (start .args .out .now) (start .args .at) 32) (suc (start .args .at)) l) row-is
+  bytes = (rw (add-one (start .args .at)) at (c .put-parts .ensures .1))
+      ∙ ap (λ l. sets (set (start .args .out .now) (start .args .at) 32) (suc (start .args .at)) l) row-is
 
   end : c .put-parts .result ≡ (start .args .at + 1) + length (hours (start .args .angle))
   end = c .put-parts .ensures .0 ∙ ap (λ l. (start .args .at + 1) + length l) row-is

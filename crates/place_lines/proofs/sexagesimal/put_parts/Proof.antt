@@ -34,7 +34,14 @@ put-marked-requires c κs =
     let x = c .before .before .before in
     let s = start x in (
       s .pre .1 .0,
-      omega (arith, s .pre, put-1 x .end, put-length (put-1 x), clock-length (s .args .width) (natAbs (s .args .seconds))),
+      omega (
+        arith,
+        s .pre,
+        put-1 x .end,
+        put-length (put-1 x),
+        clock-length (s .args .width)
+            (natAbs (s .args .seconds)),
+      ),
     )
 
 module _ (c : tie.After-put-marked) where
@@ -51,7 +58,8 @@ module _ (c : tie.After-put-marked) where
   put-2 =
       more (put-1 k) (c .put-marked .result) (marked point (s .args .digits) (natAbs (s .args .n)))
       (c .put-marked .last .1 .1 .1 .1 .0)
-      (rw (toZ-ofZ (s .fits .n)) at (c .put-marked .ensures .1)) (rw (toZ-ofZ (s .fits .n)) at (c .put-marked .ensures .0))
+      (rw (toZ-ofZ (s .fits .n)) at (c .put-marked .ensures .1))
+      (rw (toZ-ofZ (s .fits .n)) at (c .put-marked .ensures .0))
 
 same-length : tie.Need-same-length
 same-length c = search needs
