@@ -4,6 +4,7 @@ pub mod Sexagesimal
 pub mod Answers
 -- laws
 pub mod Words
+pub mod LongLines
 pub mod Rows
 pub mod Quotients
 pub mod Entries

@@ -14,7 +14,8 @@ use Rattle.rules.specs.declared.Line.{Line}
 use Rattle.rules.specs.Lines.{space, negative, unsigned, ofDigits, ofNumber, lineOf}
 use Rattle.laws.specs.Lines.{to-end}
 use Rattle.place_lines.specs.declared.Asked.{Asked}
-use Rattle.place_lines.specs.Asking.{wordLength, firstWord, afterWord, ofSite, withSite, askedIn, momentEnd, askedOf}
+use Rattle.place_lines.specs.Asking.{wordLength, firstWord, afterWord, ofSite, withSite, askedIn}
+use Rattle.place_lines.specs.Asking.{momentEnd, askedOf}
 
 -- ---- a word, byte by byte
 
@@ -62,7 +63,7 @@ pub none-is-no-number : (most : ℕ) → ofNumber most [] ≡ false
 unfolding ofNumber unsigned negative ofDigits
 none-is-no-number most = refl
 
-both-false : (a b : Bool) → b ≡ false → a && b ≡ false
+pub both-false : (a b : Bool) → b ≡ false → a && b ≡ false
 both-false true b e = e
 both-false false b e = refl
 

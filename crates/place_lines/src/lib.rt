@@ -39,8 +39,8 @@ pub enum Begun {
 // What a file and a line come to.
 //
 // Given: file and line, any bytes; the line without its end.
-// Returned: how many entries the file has, and the night of the line's moment and site; or the number
-// of the refusal: of the file 9, 10, 5, then 0 for a line of another form, then 1 to 4, 6.
+// Returned: how many entries the file has, and the night of the line's moment and site; or the
+// number of the refusal: of the file 9, 10, 5, then 0 for a line of another form, then 1 to 4, 6.
 // Rule: specs/Answers.antt.
 pub fn begin(file: &[u8], line: &[u8]) -> Begun
     ensures { λ r. ⌜ r ≡ rule.begun (now (file .entry)) (now (line .entry)) ⌝ }

@@ -11,8 +11,8 @@ ghost use Rattle.laws.specs.Night.{NightFits};
 use place_lines::Begun;
 use rules::Night;
 
-// A line: its first bytes, as many as there is room for. A longer line is of another form, and so is
-// its start.
+// A line: its first bytes, as many as there is room for. A line is told by its first 58 bytes
+// (`asked-cut`), so nothing is lost.
 pub struct Start {
     pub bytes: [u8; 64],
     pub len: usize,
@@ -49,8 +49,8 @@ fn next_byte() -> u8 {
     byte[0]
 }
 
-// The first line of standard input, no byte of the second, and of a long line no more than tells its
-// form.
+// The first line of standard input, no byte of the second, and of a long line no more than tells
+// its form.
 fn read_line() -> Start
     ensures { λ r. ⌜ r .len ≤ 64 ⌝ }
 {
