@@ -5,9 +5,9 @@
 help: ## list the targets
 	@sed -n 's/^\([a-z]*\):.*## /  make \1\t/p' Makefile
 
-run: ## prove and run the program `times` on its example
-	@mkdir -p target && rt check times >target/run.log 2>&1 || { cat target/run.log; exit 1; }
-	@tests/host.sh run target/bin/times <crates/times/stdin
+run: ## prove and run the program `places` on the stars of examples/bright.slt
+	@mkdir -p target && rt check places >target/run.log 2>&1 || { cat target/run.log; exit 1; }
+	@tests/host.sh run target/bin/places examples/bright.slt <crates/places/stdin
 
 test: ## prove all and run all tests: the gate, .ci/run
 	@.ci/run

@@ -2,7 +2,7 @@
 use mathlib.Core.Path.{_≡_, refl, sym, ap, _∙_}
 use mathlib.Core.Bool.{Bool, true, false, cond, _&&_}
 use mathlib.Core.List.{List, [], _∷_}
-use Prim.Native.Nat.{ℕ, zero, suc, _+_, _-_, _*_, _≤_, _<_}
+use Prim.Native.Nat.{ℕ, zero, suc, _+_, _-_, _*_, _^_, _≤_, _<_}
 use native.Mathlib.Numerals.{add-one}
 use native.Mathlib.Omega.{arith}
 use lib.Dec.{eqb, leb, ltb, leb→le}
@@ -11,7 +11,7 @@ use lib.Seq.{drop-cons, take-all}
 use borrow.Author.Tests.{leb-true, le-leb, lt-leb, ltb-true, ltb-false}
 use Rattle.rules.specs.declared.Line.{Line}
 use Rattle.rules.specs.Lines.{nought, hyphen, isDigit, digits, form, alike, ofForm, negative, unsigned, ofDigits}
-use Rattle.rules.specs.Lines.{ofDifference, spelled, lineOf}
+use Rattle.rules.specs.Lines.{ofNumber, spelled, lineOf}
 use Rattle.laws.specs.Every.{every-at}
 use Rattle.laws.specs.Ranges.{both-true, true-not-false}
 
@@ -83,9 +83,14 @@ pub most-suc : (k : ℕ) → most (k + 1) ≡ 10 * most k + 255
 unfolding most
 most-suc k = rw (add-one k)
 
+-- of 4 bytes and of 12
 pub most-le : (k : ℕ) → k ≤ 4 → most k ≤ 300000
 unfolding most
 most-le k h = leb→le (most k) 300000 (every-at (λ k. leb (most k) 300000) 5 k tt (omega arith))
+
+pub most-le-12 : (k : ℕ) → k ≤ 12 → most k ≤ 2 ^ 45
+unfolding most
+most-le-12 k h = leb→le (most k) (2 ^ 45) (every-at (λ k. leb (most k) (2 ^ 45)) 13 k tt (omega arith))
 
 -- ---- the minus
 
@@ -99,12 +104,12 @@ unfolding negative
 negative-none [] h = refl
 negative-none (b ∷ bs) h = absurd (omega arith)
 
-pub of-digits-le : (bs : List ℕ) → ofDigits bs ≡ true → (1 ≤ length bs) × (length bs ≤ 4)
+pub of-digits-le : (most : ℕ) (bs : List ℕ) → ofDigits most bs ≡ true → (1 ≤ length bs) × (length bs ≤ most)
 unfolding ofDigits
-of-digits-le bs e =
-    let u = both-true (leb 1 (length bs) && leb (length bs) 4) (ofForm (digits (length bs)) bs) e .0 in
-    let v = both-true (leb 1 (length bs)) (leb (length bs) 4) u in
-    (leb-true 1 (length bs) (v .0), leb-true (length bs) 4 (v .1))
+of-digits-le most bs e =
+    let u = both-true (leb 1 (length bs) && leb (length bs) most) (ofForm (digits (length bs)) bs) e .0 in
+    let v = both-true (leb 1 (length bs)) (leb (length bs) most) u in
+    (leb-true 1 (length bs) (v .0), leb-true (length bs) most (v .1))
 
 pub negative-length : (bs : List ℕ) → negative bs ≡ true → 1 ≤ length bs
 unfolding negative
@@ -121,17 +126,17 @@ unsigned-is bs b e = rw e
 
 -- ---- a long line is of another form
 
-digits-long : (bs : List ℕ) → 5 ≤ length bs → ofDigits bs ≡ false
+digits-long : (most : ℕ) (bs : List ℕ) → most < length bs → ofDigits most bs ≡ false
 unfolding ofDigits
-digits-long bs h = rw (le-leb 1 (length bs) (omega arith), lt-leb (length bs) 4 (omega arith))
+digits-long most bs h = rw (le-leb 1 (length bs) (omega arith), lt-leb (length bs) most h)
 
-difference-long : (bs : List ℕ) → 6 ≤ length bs → ofDifference bs ≡ false
-unfolding ofDifference unsigned
-difference-long bs h = go (negative bs)
+pub number-long : (most : ℕ) (bs : List ℕ) → most + 1 < length bs → ofNumber most bs ≡ false
+unfolding ofNumber unsigned
+number-long most bs h = go (negative bs)
   where
-    go : (b : Bool) → ofDigits (cond b (drop 1 bs) bs) ≡ false
-    go true = digits-long (drop 1 bs) (omega (arith, length-drop 1 bs))
-    go false = digits-long bs (omega arith)
+    go : (b : Bool) → ofDigits most (cond b (drop 1 bs) bs) ≡ false
+    go true = digits-long most (drop 1 bs) (omega (arith, length-drop 1 bs))
+    go false = digits-long most bs (omega arith)
 
 both-false : (a b : Bool) → b ≡ false → a && b ≡ false
 both-false true b e = e
@@ -140,8 +145,8 @@ both-false false b e = refl
 pub long-other : (line : List ℕ) → 30 ≤ length line → lineOf line ≡ Line.Other
 unfolding lineOf
 long-other line h =
-    rw (both-false (ofForm form (take 24 line)) (ofDifference (drop 24 line))
-    (difference-long (drop 24 line) (omega (arith, length-drop 24 line))))
+    rw (both-false (ofForm form (take 24 line)) (ofNumber 4 (drop 24 line))
+    (number-long 4 (drop 24 line) (omega (arith, length-drop 24 line))))
 
 -- so a line is told by its first 30 bytes, or more
 pub line-cut : (line : List ℕ) (k : ℕ) → 30 ≤ k → lineOf (take k line) ≡ lineOf line

@@ -8,8 +8,8 @@ use Rattle.rules.specs.Calendar.{leap, months, sum, upFrom, years, daysBefore20
 use Rattle.rules.specs.Calendar.{yearRefused, monthDays, dayRefused}
 use Rattle.rules.specs.Dates.{taiMinusUtc, beforeStep, lastSecond, timeRefused, msOfDay, utc, utOf, ttOf}
 use Rattle.rules.specs.Dates.{differenceRefused, instants}
-use Rattle.rules.specs.Lines.{isDigit, alike, ofForm, negative, unsigned, ofDigits, ofDifference, spelled, field}
-use Rattle.rules.specs.Lines.{difference, moment, lineOf}
+use Rattle.rules.specs.Lines.{isDigit, alike, ofForm, negative, unsigned, ofDigits, ofNumber, spelled, field}
+use Rattle.rules.specs.Lines.{signed, moment, lineOf}
 use Rattle.rules.specs.Times.{decimalBefore, decimal, refusedLine, threeNumbers, answerLine}
 use Rattle.rules.specs.Times.{printed, before, linesOf, ended, times}
 
@@ -37,6 +37,6 @@ pub sample : times sampleInput ≡ sampleOutput
 unfolding same between within number leap months sum upFrom years daysBefore2000 dayCount dayNumber yearRefused
     monthDays
     dayRefused taiMinusUtc beforeStep lastSecond timeRefused msOfDay utc utOf ttOf differenceRefused instants isDigit
-    alike ofForm negative unsigned ofDigits ofDifference spelled field difference moment lineOf decimalBefore decimal
+    alike ofForm negative unsigned ofDigits ofNumber spelled field signed moment lineOf decimalBefore decimal
     refusedLine threeNumbers answerLine printed before linesOf ended times
 sample = refl

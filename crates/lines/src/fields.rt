@@ -1,10 +1,11 @@
-// The fields of a line of `times`: whether they have their form, and the numbers in them.
+// The fields of a line: whether they have their form, and the numbers in them.
 ghost use mathlib.Core.Path.{_≡_};
 ghost use mathlib.Core.Bool.{true};
-ghost use Prim.Native.Nat.{_≤_, _+_, _-_};
-ghost use lib.IntN.{pos};
+ghost use Prim.Native.Nat.{ℕ, _≤_, _+_, _-_};
+ghost use lib.IntN.{ℤ, pos, natAbs};
 ghost use lib.ListN.{length};
 ghost use Rattle.rules.specs.Lines as rule;
+ghost use Rattle.laws.specs.Lines as law;
 
 // A 0 stands for any digit, every other byte for itself.
 const FORM: [u8; 24] = *b"0000-00-00 00:00:00.000 ";
@@ -37,14 +38,14 @@ pub fn of_form(s: &[u8]) -> bool
     true
 }
 
-// Whether the bytes are 1 to 4 digits.
-pub fn of_digits(s: &[u8]) -> bool
-    ensures { λ r. ⌜ r ≡ rule.ofDigits (now (s .entry)) ⌝ }
+// Whether the bytes are 1 to `most` digits.
+pub fn of_digits(s: &[u8], most: usize) -> bool
+    ensures { λ r. ⌜ r ≡ rule.ofDigits most (now (s .entry)) ⌝ }
 {
     if s.len() < 1 {
         return false;
     }
-    if 4 < s.len() {
+    if most < s.len() {
         return false;
     }
     let mut i = 0;
@@ -67,14 +68,14 @@ pub fn negative(s: &[u8]) -> bool
     s[0] == 45
 }
 
-// Whether the bytes are an optional minus, then 1 to 4 digits.
-pub fn of_difference(s: &[u8]) -> bool
-    ensures { λ r. ⌜ r ≡ rule.ofDifference (now (s .entry)) ⌝ }
+// Whether the bytes are an optional minus, then 1 to `most` digits.
+pub fn of_number(s: &[u8], most: usize) -> bool
+    ensures { λ r. ⌜ r ≡ rule.ofNumber most (now (s .entry)) ⌝ }
 {
     if negative(s) {
-        return of_digits(&s[1..]);
+        return of_digits(&s[1..], most);
     }
-    of_digits(s)
+    of_digits(s, most)
 }
 
 // The value of a digit; 0 for what comes before the digits.
@@ -85,9 +86,10 @@ pub fn value(b: u8) -> i64
 }
 
 // The number that a row of digits spells.
-pub fn spelled(s: &[u8]) -> i32
-    requires { ⌜ length (now s) ≤ 4 ⌝ }
-    ensures { λ r. ⌜ r ≡ pos (rule.spelled 0 (now (s .entry))) ⌝ }
+pub fn spelled(s: &[u8]) -> i64
+    requires { ⌜ length (now s) ≤ 12 ⌝ }
+    ensures { λ r. ⌜ (r ≡ pos (rule.spelled 0 (now (s .entry))))
+        × (natAbs r ≤ law.most (length (now (s .entry)))) ⌝ }
 {
     let mut n: i64 = 0;
     let mut i = 0;
@@ -95,7 +97,7 @@ pub fn spelled(s: &[u8]) -> i32
         n = 10 * n + value(s[i]);
         i += 1;
     }
-    n as i32
+    n
 }
 
 // The number in some bytes of a line.
@@ -104,16 +106,25 @@ pub fn field(line: &[u8], from: usize, count: usize) -> i32
     ensures { λ r. ⌜ r ≡ rule.field from count (now (line .entry)) ⌝ }
 {
     let to = from + count;
-    spelled(&line[from..to])
+    spelled(&line[from..to]) as i32
 }
 
-// UT1-UTC, with its sign.
-pub fn difference(s: &[u8]) -> i32
-    requires { ⌜ rule.ofDifference (now s) ≡ true ⌝ }
-    ensures { λ r. ⌜ r ≡ rule.difference (now (s .entry)) ⌝ }
+// The number that digits spell, with their sign.
+pub fn signed(s: &[u8]) -> i64
+    requires { ⌜ length (rule.unsigned (now s)) ≤ 12 ⌝ }
+    ensures { λ r. ⌜ (r ≡ rule.signed (now (s .entry)))
+        × (natAbs r ≤ law.most (length (rule.unsigned (now (s .entry))))) ⌝ }
 {
     if negative(s) {
         return 0 - spelled(&s[1..]);
     }
     spelled(s)
+}
+
+// UT1-UTC.
+pub fn difference(s: &[u8]) -> i32
+    requires { ⌜ rule.ofNumber 4 (now s) ≡ true ⌝ }
+    ensures { λ r. ⌜ r ≡ rule.signed (now (s .entry)) ⌝ }
+{
+    signed(s) as i32
 }

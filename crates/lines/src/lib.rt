@@ -5,17 +5,17 @@ ghost use Rattle.rules.specs.Lines as rule;
 ghost use Rattle.lines.specs.Printed.{printedFor, printedIn, overlaidFor, overlaidIn};
 use crate::fields::difference;
 use crate::fields::field;
-use crate::fields::of_difference;
 use crate::fields::of_form;
+use crate::fields::of_number;
 use crate::printing::put_line;
 use rules::Date;
 use rules::Line;
 use rules::Moment;
 use rules::Time;
 
-mod decimals;
-mod fields;
-mod printing;
+pub mod decimals;
+pub mod fields;
+pub mod printing;
 
 // A line without its end.
 //
@@ -31,7 +31,7 @@ pub fn line_of(line: &[u8]) -> Line
     if !of_form(&line[..24]) {
         return Line::Other;
     }
-    if !of_difference(&line[24..]) {
+    if !of_number(&line[24..], 4) {
         return Line::Other;
     }
     Line::Of(Moment {

@@ -12,7 +12,7 @@ use mir.Facts.{toZ-ofZ}
 use borrow.Author.Needs.{needs, sfits-of}
 use borrow.Author.Tests.{not-true, not-false}
 use Rattle.rules.specs.declared.Line.{Line}
-use Rattle.rules.specs.Lines.{form, ofForm, ofDifference, field, difference, moment, lineOf}
+use Rattle.rules.specs.Lines.{form, ofForm, ofNumber, field, signed, moment, lineOf}
 use Rattle.laws.specs.Lines.{form-short, to-end}
 use Rattle.lines.proofs.line_of.Statement.{statement}
 use Rattle.lines.proofs.line_of.Tie as tie
@@ -47,30 +47,30 @@ formed c = form-test (c .before) true (not-false _ (c .if2 .left))
 
 -- ---- so has UT1−UTC
 
-sub-of-difference : tie.Need-sub-of-difference
-sub-of-difference c = search needs
+sub-of-number : tie.Need-sub-of-number
+sub-of-number c = search needs
 
-part-of-difference-start : tie.Need-part-of-difference-start
-part-of-difference-start c = search needs
+part-of-number-start : tie.Need-part-of-number-start
+part-of-number-start c = search needs
 
-part-of-difference-end : tie.Need-part-of-difference-end
-part-of-difference-end c = search needs
+part-of-number-end : tie.Need-part-of-number-end
+part-of-number-end c = search needs
 
-of-difference-requires : tie.Need-of-difference-requires
-of-difference-requires c κs = search needs
+of-number-requires : tie.Need-of-number-requires
+of-number-requires c κs = search needs
 
-abbrev line : tie.After-of-difference → List ℕ
+abbrev line : tie.After-of-number → List ℕ
 line c = text (c .before .before .before .before .before)
 
-difference-test : (c : tie.After-of-difference) (b : Bool) → c .of-difference .result ≡ b
-    → ofDifference (drop 24 (line c)) ≡ b
-difference-test c b e = sym (rw (to-end (line c) 24) at (c .of-difference .ensures)) ∙ e
+difference-test : (c : tie.After-of-number) (b : Bool) → c .of-number .result ≡ b
+    → ofNumber 4 (drop 24 (line c)) ≡ b
+difference-test c b e = sym (rw (to-end (line c) 24) at (c .of-number .ensures)) ∙ e
 
 returns-3 : tie.Need-returns-3
 unfolding lineOf
 returns-3 c = rw (formed (c .before .before .before), difference-test (c .before) false (not-true _ (c .if3 .taken)))
 
-differs : (c : tie.Else3) → ofDifference (drop 24 (line (c .before))) ≡ true
+differs : (c : tie.Else3) → ofNumber 4 (drop 24 (line (c .before))) ≡ true
 differs c = difference-test (c .before) true (not-false _ (c .if3 .left))
 
 -- ---- the numbers
@@ -139,7 +139,7 @@ returns-4 c =
     (c .before .before .before .field6 .ensures) in
     let ms : toZ w32 (ofZ w32 (c .before .before .field7 .result))
     ≡ field 20 3 s = number (sfits-of (c .before .before .field7 .ok)) (c .before .before .field7 .ensures) in
-    let d : toZ w32 (ofZ w32 (c .difference .result)) ≡ difference (drop 24 s) =
+    let d : toZ w32 (ofZ w32 (c .difference .result)) ≡ signed (drop 24 s) =
     number (sfits-of (c .difference .ok)) (rw (to-end s 24) at (c .difference .ensures)) in
     rw (formed (a .before .before .before), differs a)
     (ap Line.Of (λ i. record {
@@ -156,10 +156,10 @@ line-of-spec =
     slice-aggregate-of-form
     of-form-requires
     returns-2
-    sub-of-difference
-    part-of-difference-start
-    part-of-difference-end
-    of-difference-requires
+    sub-of-number
+    part-of-number-start
+    part-of-number-end
+    of-number-requires
     returns-3
     field-requires
     field-requires-2

@@ -13,11 +13,11 @@ use Rattle.lines.proofs.fields.of_digits.Statement.{statement}
 use Rattle.lines.proofs.fields.of_digits.Tie as tie
 
 abbrev Inv-loop : tie.InvT-loop
-Inv-loop s i₀ i =
+Inv-loop s most i₀ i =
     (i ≤ length s) × (ofForm (drop i (digits (length s))) (drop i s) ≡ ofForm (digits (length s)) s)
 
 abbrev μ-loop : tie.MeasureT-loop
-μ-loop s i₀ i = length s - i
+μ-loop s most i₀ i = length s - i
 
 returns : tie.Need-returns Inv-loop μ-loop
 unfolding ofDigits
@@ -27,7 +27,7 @@ returns-2 : tie.Need-returns-2 Inv-loop μ-loop
 unfolding ofDigits
 returns-2 c =
     let l = length (c .before .before .before .args .s .now) in
-    rw (le-leb 1 l (c .before .if1 .left), lt-leb l 4 (c .if2 .taken))
+    rw (le-leb 1 l (c .before .if1 .left), lt-leb l (c .before .before .before .args .most) (c .if2 .taken))
 
 loop-holds : tie.Need-loop-holds Inv-loop μ-loop
 loop-holds c = (omega arith, refl)
@@ -43,15 +43,17 @@ one : (s : List ℕ) (i : ℕ) (b : Bool) → i < length s → isDigit (getD s i
     → b && ofForm (drop (i + 1) (digits (length s))) (drop (i + 1) s) ≡ ofForm (digits (length s)) s
 one s i b h e w = rw e at (sym (digits-step s (length s) i h h) ∙ w)
 
-whole : (s : List ℕ) (b : Bool) → 1 ≤ length s → length s ≤ 4 → b ≡ ofForm (digits (length s)) s → b ≡ ofDigits s
+whole : (most : ℕ) (s : List ℕ) (b : Bool) → 1 ≤ length s → length s ≤ most
+    → b ≡ ofForm (digits (length s)) s
+    → b ≡ ofDigits most s
 unfolding ofDigits
-whole s b h k e = rw (le-leb 1 (length s) h, le-leb (length s) 4 k) e
+whole most s b h k e = rw (le-leb 1 (length s) h, le-leb (length s) most k) e
 
 returns-3 : tie.Need-returns-3 Inv-loop μ-loop
 returns-3 c =
     let a = c .before .before .before .before in
     let s = a .before .before .before .before .args .s .now in
-    whole s false (omega arith) (omega arith)
+    whole (a .before .before .before .before .args .most) s false (omega arith) (omega arith)
     (one s (a .loop .i) false (omega arith) (sym (c .before .is-digit .ensures) ∙ not-true _ (c .if3 .taken))
     (a .loop .inv .1))
 
@@ -78,7 +80,8 @@ returns-4 : tie.Need-returns-4 Inv-loop μ-loop
 returns-4 c =
     let a = c .before in
     let s = a .before .before .before .before .args .s .now in
-    whole s true (omega arith) (omega arith) (at-end s (a .loop .i) _ (omega arith) (a .loop .inv .1))
+    whole (a .before .before .before .before .args .most) s true (omega arith) (omega arith)
+    (at-end s (a .loop .i) _ (omega arith) (a .loop .inv .1))
 
 pub of-digits-spec : {M : Type 1} → statement M
 of-digits-spec =

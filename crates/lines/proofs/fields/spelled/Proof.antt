@@ -3,18 +3,14 @@
 -- bytes left.
 use mathlib.Core.Path.{_≡_, refl, sym, _∙_, ap}
 use mathlib.Core.List.{List}
-use Prim.Native.Nat.{ℕ, _-_, _*_, _≤_}
+use Prim.Native.Nat.{ℕ, _-_, _*_, _^_, _≤_}
 use native.Mathlib.Omega.{arith}
 use lib.IntN.{pos}
 use lib.ListN.{length, getD, drop}
-use mir.Syntax.{w32, w64}
-use mir.Val.{SFits, toZ}
-use mir.Facts.{toZ-ofZ}
 use borrow.Author.Needs.{needs}
 use Rattle.words.specs.Holds.{Holds, bits, _*ʷ_, nat, lit, got, add-ok, mul, mul-ok}
-use Rattle.words.specs.Fits.{fits32}
 use Rattle.rules.specs.Lines.{spelled}
-use Rattle.laws.specs.Lines.{spelled-step, spelled-end, most, most-suc, most-le}
+use Rattle.laws.specs.Lines.{spelled-step, spelled-end, most, most-suc, most-le-12}
 use Rattle.lines.proofs.fields.spelled.Statement.{statement}
 use Rattle.lines.proofs.fields.spelled.Tie as tie
 
@@ -27,9 +23,10 @@ abbrev μ-loop : tie.MeasureT-loop
 loop-holds : tie.Need-loop-holds Inv-loop μ-loop
 loop-holds c = (omega arith, (omega arith, refl))
 
-so-far : (c : tie.In-loop Inv-loop μ-loop) → Holds (c .before .loop .n) (pos (c .before .loop .n)) 300000
+so-far : (c : tie.In-loop Inv-loop μ-loop) → Holds (c .before .loop .n) (pos (c .before .loop .n)) (2 ^ 45)
 so-far c =
-    nat (c .before .loop .n) (omega (arith, c .before .loop .inv .1 .0, most-le (c .before .loop .i) (omega arith))) tt
+    nat (c .before .loop .n)
+    (omega (arith, c .before .loop .inv .1 .0, most-le-12 (c .before .loop .i) (omega arith))) tt
 
 mul-n : tie.Need-mul-n Inv-loop μ-loop
 mul-n c = mul-ok (lit 10 tt) (so-far c) tt
@@ -53,7 +50,7 @@ byte : (c : tie.After-value Inv-loop μ-loop) → Holds (bits (c .value .result)
 byte c = got (c .value .ensures) (omega (arith, byte-lt c)) tt
 
 tens : (c : tie.After-value Inv-loop μ-loop)
-    → Holds (10 *ʷ c .before .before .before .loop .n) (pos (10 * c .before .before .before .loop .n)) (10 * 300000)
+    → Holds (10 *ʷ c .before .before .before .loop .n) (pos (10 * c .before .before .before .loop .n)) (10 * (2 ^ 45))
 tens c = mul (lit 10 tt) (so-far (c .before .before)) tt
 
 add-n : tie.Need-add-n Inv-loop μ-loop
@@ -76,25 +73,16 @@ loop-again c =
       ),
     )
 
-module _ (c : tie.After-loop Inv-loop μ-loop) where
-  abbrev n : ℕ
-  n = c .before .loop .n
-
-  n-le : n ≤ 300000
-  n-le = omega (arith, c .before .loop .inv .1 .0, most-le (c .before .loop .i) (omega arith))
-
-  fits : SFits w32 (toZ w64 n)
-  fits = rw (nat n {b = 300000} n-le tt .value) (fits32 (pos n) (omega (arith, n-le)))
-
-cast-result : tie.Need-cast-result Inv-loop μ-loop
-cast-result c = fits c
-
 returns : tie.Need-returns Inv-loop μ-loop
 returns c =
     let a = c .before in
     let s = a .before .before .args .s .now in
-    toZ-ofZ (fits c) ∙ nat (n c) {b = 300000} (n-le c) tt .value
-    ∙ ap pos (sym (spelled-end s (a .loop .i) (n c) (omega arith)) ∙ a .loop .inv .1 .1)
+    let l : a .loop .i ≡ length s = omega arith in
+    let n-le : a .loop .n ≤ 2 ^ 45 = omega (arith, a .loop .inv .1 .0, most-le-12 (a .loop .i) (omega arith)) in
+    let n-is = nat (a .loop .n) {b = 2 ^ 45} n-le tt .value in (
+      n-is ∙ ap pos (sym (spelled-end s (a .loop .i) (a .loop .n) (omega arith)) ∙ a .loop .inv .1 .1),
+      rw (n-is, ← l) (a .loop .inv .1 .0),
+    )
 
 pub spelled-spec : {M : Type 1} → statement M
 spelled-spec =
@@ -110,5 +98,4 @@ spelled-spec =
     add-i
     loop-less
     loop-again
-    cast-result
     returns)

@@ -1,13 +1,13 @@
--- `lines::fields::of_difference` meets its contract.
+-- `lines::fields::of_number` meets its contract.
 use mathlib.Core.Path.{_≡_, sym, _∙_, ap}
 use mathlib.Core.Bool.{Bool, true, false}
 use Prim.Native.Nat.{_≤_}
 use lib.ListN.{length}
 use borrow.Author.Needs.{needs}
-use Rattle.rules.specs.Lines.{negative, ofDigits, ofDifference}
+use Rattle.rules.specs.Lines.{negative, ofDigits, ofNumber}
 use Rattle.laws.specs.Lines.{negative-length, to-end, unsigned-is}
-use Rattle.lines.proofs.fields.of_difference.Statement.{statement}
-use Rattle.lines.proofs.fields.of_difference.Tie as tie
+use Rattle.lines.proofs.fields.of_number.Statement.{statement}
+use Rattle.lines.proofs.fields.of_number.Tie as tie
 
 negative-requires : tie.Need-negative-requires
 negative-requires c κs = search needs
@@ -31,25 +31,26 @@ of-digits-requires : tie.Need-of-digits-requires
 of-digits-requires c κs = search needs
 
 returns : tie.Need-returns
-unfolding ofDifference
+unfolding ofNumber
 returns c =
     let a = c .before .before in
     let s = a .before .before .before .args .s .now in
-    rw (to-end s 1) at (c .of-digits .ensures) ∙ ap ofDigits
+    rw (to-end s 1) at (c .of-digits .ensures) ∙ ap (ofDigits (a .before .before .before .args .most))
     (sym (unsigned-is s true (minus (a .before) true (a .if1 .taken))))
 
 of-digits-requires-2 : tie.Need-of-digits-requires-2
 of-digits-requires-2 c κs = search needs
 
 returns-2 : tie.Need-returns-2
-unfolding ofDifference
+unfolding ofNumber
 returns-2 c =
     let a = c .before in
     let s = a .before .before .before .args .s .now in
-    c .of-digits2 .ensures ∙ ap ofDigits (sym (unsigned-is s false (minus (a .before) false (a .if1 .left))))
+    c .of-digits2 .ensures ∙ ap (ofDigits (a .before .before .before .args .most))
+    (sym (unsigned-is s false (minus (a .before) false (a .if1 .left))))
 
-pub of-difference-spec : {M : Type 1} → statement M
-of-difference-spec =
+pub of-number-spec : {M : Type 1} → statement M
+of-number-spec =
     tie.close
     (tie.spec
     negative-requires

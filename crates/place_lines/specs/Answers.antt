@@ -1,0 +1,74 @@
+-- Our own program `places`, not document 01: what it answers. Definitions only.
+-- The file is checked first, by 9, 10, 5; then the form of the line, by 0; then date and site, by 1 to 4, 6.
+use Prim.Native.Nat.{ℕ}
+use mathlib.Core.Bool.{Bool, cond}
+use mathlib.Core.List.{List, _∷_, _++_}
+use lib.IntN.{pos}
+use Rattle.rules.specs.declared.Star.{Star}
+use Rattle.rules.specs.declared.Place.{Place}
+use Rattle.rules.specs.declared.Entry.{Entry}
+use Rattle.rules.specs.declared.Night.{Night}
+use Rattle.rules.specs.declared.Prepared.{Prepared}
+use Rattle.rules.specs.declared.Listed.{Listed}
+use Rattle.rules.specs.declared.Starred.{Starred}
+use Rattle.rules.specs.Refusals.{number}
+use Rattle.rules.specs.Lines.{space}
+use Rattle.rules.specs.Times.{decimal, refusedLine}
+use Rattle.rules.specs.Night.{nightOf}
+use Rattle.rules.specs.StarList.{freshEntry, listCount, listStar}
+use Rattle.rules.specs.NightList.{worked}
+use Rattle.place_lines.specs.declared.Asked.{Asked}
+use Rattle.place_lines.specs.declared.Begun.{Begun}
+use Rattle.place_lines.specs.Asking.{askedOf}
+use Rattle.place_lines.specs.Sexagesimal.{hours, bearing, elevation}
+
+-- ---- a file and a line
+
+unfoldable pub begunIn : ℕ → Prepared → Begun
+begunIn count (Prepared.For n) = Begun.For count n
+begunIn count (Prepared.Refused r) = Begun.Refused (pos (number r))
+
+unfoldable pub begunFor : ℕ → Asked → Begun
+begunFor count (Asked.For m site) = begunIn count (nightOf m site)
+begunFor count Asked.Other = Begun.Refused (pos 0)
+
+unfoldable pub begunOf : Listed → Asked → Begun
+begunOf (Listed.Count count) asked = begunFor count asked
+begunOf (Listed.Refused r) asked = Begun.Refused (pos (number r))
+
+-- how many entries there are, and their night; or the number of the refusal
+unfoldable pub begun : List ℕ → List ℕ → Begun
+begun file line = begunOf (listCount file) (askedOf line)
+
+-- ---- a line of the answer
+
+-- a space, then bytes
+abbrev pub spaced : List ℕ → List ℕ
+spaced bytes = space ∷ bytes
+
+-- four angles in µas
+unfoldable pub plainAngles : Place → List ℕ
+plainAngles p =
+    spaced (decimal (p .ra)) ++ spaced (decimal (p .declination))
+    ++ spaced (decimal (p .azimuth)) ++ spaced (decimal (p .altitude))
+
+-- four angles for people
+unfoldable pub peopleAngles : Place → List ℕ
+peopleAngles p =
+    spaced (hours (p .ra)) ++ spaced (elevation (p .declination))
+    ++ spaced (bearing (p .azimuth)) ++ spaced (elevation (p .altitude))
+
+-- number, mark and four angles of an entry
+unfoldable pub entryLine : Bool → ℕ → Entry → List ℕ
+entryLine people index e =
+    decimal (pos index) ++ spaced (decimal (pos (e .mark)))
+    ++ cond people (peopleAngles (e .place)) (plainAngles (e .place))
+
+-- of a star in a night, worked as an entry of a list is
+unfoldable pub starLine : Bool → Night → ℕ → Starred → List ℕ
+starLine people n index (Starred.Of s) = entryLine people index (worked n (freshEntry s))
+starLine people n index (Starred.Refused r) = refusedLine (number r)
+
+-- the line of an entry of a file
+unfoldable pub answerLine : Bool → List ℕ → Night → ℕ → List ℕ
+answerLine people file n index = starLine people n index (listStar file index)

@@ -1,0 +1,93 @@
+// A line of the answer, put at the front of lent memory.
+ghost use mathlib.Core.Path.{_≡_};
+ghost use Prim.Native.Nat.{ℕ, _≤_, _+_};
+ghost use lib.IntN.{ℤ};
+ghost use lib.ListN.{length};
+ghost use lib.Seq.{sets};
+ghost use Rattle.rules.specs.Times.{decimal};
+ghost use Rattle.rules.specs.StarList.{freshEntry};
+ghost use Rattle.rules.specs.NightList as nights;
+ghost use Rattle.laws.specs.Night.{NightFits};
+ghost use Rattle.place_lines.specs.Answers as rule;
+use crate::sexagesimal::put_bearing;
+use crate::sexagesimal::put_elevation;
+use crate::sexagesimal::put_hours;
+use lines::decimals::put;
+use rules::Entry;
+use rules::Night;
+use rules::Place;
+use rules::Star;
+use stars::star_refused;
+
+// A star of a night as an entry.
+pub fn worked(night: Night, star: Star) -> Entry
+    requires { ⌜ NightFits night ⌝ }
+    ensures { λ r. ⌜ r ≡ nights.worked night (freshEntry star) ⌝ }
+{
+    if star_refused(star) {
+        return Entry {
+            star: star,
+            mark: 5,
+            place: Place {
+                ra: 0,
+                declination: 0,
+                azimuth: 0,
+                altitude: 0,
+            },
+        };
+    }
+    Entry {
+        star: star,
+        mark: 0,
+        place: place::place_in(night, star),
+    }
+}
+
+// A space and a number.
+pub fn put_spaced(n: i64, at: usize, out: &mut [u8]) -> usize
+    requires { ⌜ at + 21 ≤ length (now out) ⌝ }
+    ensures { λ r. ⌜ r ≡ at + length (rule.spaced (decimal n)) ⌝ }
+    ensures { λ _. ⌜ now (out .exit) ≡ sets (now (out .entry)) at (rule.spaced (decimal n)) ⌝ }
+{
+    out[at] = 32;
+    put(n, at + 1, out)
+}
+
+// Four angles in µas.
+pub fn put_plain(place: Place, at: usize, out: &mut [u8]) -> usize
+    requires { ⌜ at + 84 ≤ length (now out) ⌝ }
+    ensures { λ r. ⌜ r ≡ at + length (rule.plainAngles place) ⌝ }
+    ensures { λ _. ⌜ now (out .exit) ≡ sets (now (out .entry)) at (rule.plainAngles place) ⌝ }
+{
+    let a = put_spaced(place.ra, at, out);
+    let b = put_spaced(place.declination, a, out);
+    let c = put_spaced(place.azimuth, b, out);
+    put_spaced(place.altitude, c, out)
+}
+
+// Four angles for people.
+pub fn put_people(place: Place, at: usize, out: &mut [u8]) -> usize
+    requires { ⌜ at + 84 ≤ length (now out) ⌝ }
+    ensures { λ r. ⌜ r ≡ at + length (rule.peopleAngles place) ⌝ }
+    ensures { λ _. ⌜ now (out .exit) ≡ sets (now (out .entry)) at (rule.peopleAngles place) ⌝ }
+{
+    let a = put_hours(place.ra, at, out);
+    let b = put_elevation(place.declination, a, out);
+    let c = put_bearing(place.azimuth, b, out);
+    put_elevation(place.altitude, c, out)
+}
+
+// Number, mark and four angles of an entry.
+pub fn put_entry(index: usize, entry: Entry, people: bool, out: &mut [u8]) -> usize
+    requires { ⌜ (index ≤ 64) × (128 ≤ length (now out)) ⌝ }
+    ensures { λ r. ⌜ r ≡ length (rule.entryLine people index entry) ⌝ }
+    ensures { λ _. ⌜ now (out .exit)
+        ≡ sets (now (out .entry)) 0 (rule.entryLine people index entry) ⌝ }
+{
+    let a = put(index as i64, 0, out);
+    let b = put_spaced(entry.mark as i64, a, out);
+    if people {
+        return put_people(entry.place, b, out);
+    }
+    put_plain(entry.place, b, out)
+}

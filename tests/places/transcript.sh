@@ -1,0 +1,66 @@
+#!/usr/bin/env bash
+# transcript.sh COMMAND [WORD ..]: runs a program `places` over every case, and prints each case with what the program
+# writes to standard output and whether it writes to standard error.
+set -uo pipefail
+
+top=$(cd "$(dirname "${BASH_SOURCE[0]}")/../.." && pwd -P)
+work=$(mktemp -d) || exit 2
+trap 'rm -rf "$work"' EXIT
+line='2024-06-21 22:00:00.000 0 185400000000 0'
+bright=$top/examples/bright.slt
+places=("$@")
+
+answered() { # answered NAME [WORD ..]: what is answered to standard input, by a prompt end
+    printf '== %s\n' "$1"
+    shift
+    timeout 60 "${places[@]}" "$@" 2>"$work/error" || echo "ended with status $?"
+    [ ! -s "$work/error" ] || echo '(a message on standard error)'
+}
+
+bytes() { # bytes TEXT [RECORDS]: a file of a head, and records of 24 noughts
+    printf "$1"
+    [ $# -lt 2 ] || head -c $((24 * $2)) /dev/zero
+}
+
+while IFS= read -r text; do
+    printf '%s\n' "$text" | answered "$text" "$bright"
+    printf '%s\n' "$text" | answered "$text, for people" "$bright" sexagesimal
+done <"$top/tests/places/lines.in"
+
+# standard input
+printf '%s' "$line" | answered 'a line without its end' "$bright"
+printf '%s\nmore\n' "$line" | answered 'a second line' "$bright"
+answered 'no line' "$bright" </dev/null
+head -c 10000000 /dev/zero | answered 'ten million noughts for a line' "$bright"
+
+# files: 9, 10, 5, and none of them
+try() { # try NAME: the file that stands in $work/file
+    echo "$line" | answered "$1" "$work/file"
+    echo 'no line' | answered "$1, and a line of another form" "$work/file"
+}
+: >"$work/file"; try 'an empty file'
+bytes 'SLT\1\0\0' >"$work/file"; try '6 bytes'
+bytes 'SLU\1\0\0\0' >"$work/file"; try 'another mark'
+bytes 'SLT\2\0\0\0' >"$work/file"; try 'version 2'
+bytes 'SLT\1\0\0\0' >"$work/file"; try 'no entry'
+bytes 'SLT\1\0\1\0' 1 >"$work/file"; try 'one entry'
+bytes 'SLT\1\0\100\0' 64 >"$work/file"; try '64 entries'
+bytes 'SLT\1\0\101\0' 65 >"$work/file"; try '65 entries'
+bytes 'SLT\1\0\1\0' 2 >"$work/file"; try 'a record too many'
+bytes 'SLT\1\0\2\0' 1 >"$work/file"; try 'a record too few'
+{ bytes 'SLT\1\0\1\0' 1; printf x; } >"$work/file"; try 'a byte too many'
+{ bytes 'SLT\1\0\100\0' 64; printf x; } >"$work/file"; try 'a byte past 64 entries'
+{ bytes 'SLT\1\0\2\0' 1; head -c 24 /dev/zero | tr '\0' '\377'; } >"$work/file"; try 'a star that is refused'
+{ bytes 'SLT\1\0\100\0' 64; head -c 100000000 /dev/zero; } >"$work/file"; try '100 million bytes'
+head -c 100000000 /dev/zero >"$work/file"; try '100 million noughts'
+rm "$work/file"
+
+# the shell
+echo "$line" | answered 'no argument'
+echo "$line" | answered 'an empty argument' ''
+echo "$line" | answered 'no such file' "$work/none"
+echo "$line" | answered 'a directory' "$work"
+echo "$line" | answered 'another word' "$bright" degrees
+echo "$line" | answered 'half the word' "$bright" sexagesima
+echo "$line" | answered 'three words' "$bright" sexagesimal now
+echo "$line" | answered 'a long name' "$(head -c 5000 /dev/zero | tr '\0' a)"
