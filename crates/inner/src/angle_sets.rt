@@ -60,7 +60,7 @@ pub extern "C" fn inner_arguments(tt: i64) -> InnerArgued
 pub extern "C" fn inner_nutation(tt: i64) -> InnerNutated
     ensures { λ r. ⌜ r ≡ innerNutated (nutatedAnswer (nutationAt (inTt tt))) ⌝ }
 {
-    nutated_out(earth::nutation::nutation(Tt(tt)))
+    nutated_out(nutation::nutation(Tt(tt)))
 }
 
 fn precessed_out(a: Precessed) -> InnerPrecessed

@@ -31,7 +31,7 @@ pub extern "C" fn inner_obliquity(tt: i64) -> InnerAngle
 pub extern "C" fn inner_sun(tt: i64) -> InnerAngle
     ensures { λ r. ⌜ r ≡ innerAngle (angleAnswer (sunLongitudeAt (inTt tt))) ⌝ }
 {
-    angle_out(earth::sun::sun_longitude(Tt(tt)))
+    angle_out(sun::sun_longitude(Tt(tt)))
 }
 
 // The sidereal angle at a UT instant.

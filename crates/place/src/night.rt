@@ -39,7 +39,7 @@ pub fn night_at(ut: Ut, tt: Tt, site: Site) -> Night
     ensures { λ r. ⌜ r ≡ rule.night ut tt site ⌝ }
 {
     let p = earth::precession::precession_of(tt);
-    let n = earth::nutation::nutation_of(tt);
+    let n = nutation::nutation_of(tt);
     let epsilon = earth::precession::obliquity_of(tt);
     let mean = circle::pair(epsilon);
     Night {
@@ -47,7 +47,7 @@ pub fn night_at(ut: Ut, tt: Tt, site: Site) -> Night
         zeta: circle::pair(p.zeta),
         theta: opposite_of(circle::pair(p.theta)),
         z: circle::pair(p.z),
-        aberration: aberration(circle::pair(earth::sun::sun_longitude_of(tt)), mean),
+        aberration: aberration(circle::pair(sun::sun_longitude_of(tt)), mean),
         mean: opposite_of(mean),
         longitude: circle::pair(n.longitude),
         obliquity: circle::pair(epsilon + n.obliquity),
