@@ -1,8 +1,8 @@
 // A list file read: its count, a star by its index, an entry.
 
 use crate::Plan;
-use crate::numbers::number_at;
-use crate::numbers::two_bytes_at;
+use star_bytes::number_at;
+use star_bytes::two_bytes_at;
 use rules::Entry;
 use rules::Listed;
 use rules::Place;
