@@ -5,7 +5,7 @@ ghost use lib.ListN.{length};
 ghost use lib.Seq.{sets};
 ghost use Rattle.rules.specs.Times as rule;
 ghost use Rattle.lines.specs.Printed.{answerTo, refusedTo};
-use crate::decimals::put;
+use decimals::put;
 use rules::Instants;
 use rules::Line;
 use rules::Moment;

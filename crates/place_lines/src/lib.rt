@@ -6,28 +6,19 @@ ghost use lib.ListN.{length};
 ghost use lib.Seq.{sets};
 ghost use Rattle.laws.specs.Night.{NightFits};
 ghost use Rattle.place_lines.specs.Answers as rule;
-use crate::asking::asked_of;
+use asking::Asked;
+use asking::asked_of;
 use crate::printing::put_entry;
 use crate::printing::worked;
 use lines::printing::put_refused;
 use rules::Listed;
-use rules::Moment;
 use rules::Night;
 use rules::Prepared;
-use rules::Site;
 use rules::Starred;
 use star_file::reading::list_count;
 use star_file::reading::list_star;
 
-mod asking;
 mod printing;
-mod sexagesimal;
-
-// A line of `places`.
-pub enum Asked {
-    For(Moment, Site),
-    Other,
-}
 
 // What a file and a line come to: how many entries there are and their night, or the number of the
 // refusal, 0 for a line of another form.
