@@ -13,12 +13,6 @@ pub record StageGiven (w k p : ℤ) : Type 0 where
   pub k-pos : 0 < natAbs k
   pub k-range : UpTo k 132
 
--- a part brought to length: no part is larger than the length, which is not nought
-pub record PartGiven (l part : ℤ) : Type 0 where
-  pub length-pos : 0 < natAbs l
-  pub length-range : UpTo l (2 * unit)
-  pub part-le : natAbs part ≤ natAbs l
-
 -- a pair brought to length: no part is above a whole, and the length is not nought
 pub record PairGiven (p : Pair) : Type 0 where
   pub cosine-le : natAbs (p .cosine) ≤ unit

@@ -50,7 +50,8 @@ pub fn parts_to(v: Direction, l: i64) -> Direction
     }
 }
 
-fn part_to(part: i64, l: i64) -> i64
+// Rnd(part * 2^30 / L).
+pub fn part_to(part: i64, l: i64) -> i64
     requires { ⌜ PartFits part l ⌝ }
     ensures { λ r. ⌜ r ≡ partTo (natAbs l) part ⌝ }
 {
