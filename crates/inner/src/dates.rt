@@ -72,7 +72,7 @@ pub extern "C" fn inner_instants(
 ) -> InnerInstants
     ensures { λ r. ⌜ r ≡ instantsOf year month day hour minute second ms difference ⌝ }
 {
-    instants_out(calendar::instants(Moment {
+    instants_out(instants::instants(Moment {
         date: Date {
             year: year,
             month: month,

@@ -36,7 +36,7 @@ const HALF: i64 = 648000000000;
 pub fn place(moment: Moment, star: Star, site: Site) -> Placed
     ensures { λ r. ⌜ r ≡ rule.place moment star site ⌝ }
 {
-    let instants = calendar::instants(moment);
+    let instants = instants::instants(moment);
     match instants {
         Instants::At(ut, tt) => placed(ut, tt, star, site),
         Instants::Refused(r) => Placed::Refused(r),
@@ -51,7 +51,7 @@ pub fn place(moment: Moment, star: Star, site: Site) -> Placed
 pub fn night_of(moment: Moment, site: Site) -> Prepared
     ensures { λ r. ⌜ r ≡ nights.nightOf moment site ⌝ }
 {
-    let instants = calendar::instants(moment);
+    let instants = instants::instants(moment);
     match instants {
         Instants::At(ut, tt) => prepared(ut, tt, site),
         Instants::Refused(r) => Prepared::Refused(r),

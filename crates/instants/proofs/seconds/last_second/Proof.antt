@@ -7,9 +7,9 @@ use mir.Facts.{toZ-ofZ}
 use borrow.Author.Needs.{needs}
 use Rattle.rules.specs.Units.{same}
 use Rattle.rules.specs.Dates.{beforeStep, lastSecond}
-use Rattle.calendar.proofs.Equal.{equal, not-equal}
-use Rattle.calendar.proofs.seconds.last_second.Statement.{statement}
-use Rattle.calendar.proofs.seconds.last_second.Tie as tie
+use Rattle.instants.proofs.Equal.{equal, not-equal}
+use Rattle.instants.proofs.seconds.last_second.Statement.{statement}
+use Rattle.instants.proofs.seconds.last_second.Tie as tie
 
 returns : tie.Need-returns
 unfolding lastSecond

@@ -11,8 +11,8 @@ use Rattle.rules.specs.declared.Time.{Time}
 use Rattle.rules.specs.Dates.{lastSecond, timeRefused}
 use Rattle.laws.specs.Dates.{last-second-le}
 use Rattle.laws.specs.Parts.{timeOfParts}
-use Rattle.calendar.proofs.seconds.time_refused.Statement.{statement}
-use Rattle.calendar.proofs.seconds.time_refused.Tie as tie
+use Rattle.instants.proofs.seconds.time_refused.Statement.{statement}
+use Rattle.instants.proofs.seconds.time_refused.Tie as tie
 
 is-between-requires : tie.Need-is-between-requires
 is-between-requires c κs = search needs

@@ -5,8 +5,8 @@ use lib.IntN.{pos, _+ℤ_}
 use borrow.Author.Needs.{needs}
 use Rattle.words.specs.Holds.{Holds, bits, _+ʷ_, arg, lit, add, add-ok}
 use Rattle.rules.specs.Dates.{taiMinusUtc, beforeStep}
-use Rattle.calendar.proofs.seconds.before_step.Statement.{statement}
-use Rattle.calendar.proofs.seconds.before_step.Tie as tie
+use Rattle.instants.proofs.seconds.before_step.Statement.{statement}
+use Rattle.instants.proofs.seconds.before_step.Tie as tie
 
 day : (c : tie.Start) → Holds (bits (c .args .day)) (c .args .day) 36524
 day c = arg (c .args .day) (c .pre) tt

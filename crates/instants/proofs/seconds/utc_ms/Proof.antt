@@ -2,8 +2,8 @@
 use Prim.Native.Nat.{_+_, _*_}
 use lib.IntN.{pos, _+ℤ_, _*ℤ_}
 use Rattle.words.specs.Holds.{Holds, bits, _+ʷ_, _*ʷ_, lit, arg, add, add-ok, sub, sub-ok, mul, mul-ok}
-use Rattle.calendar.proofs.seconds.utc_ms.Statement.{statement}
-use Rattle.calendar.proofs.seconds.utc_ms.Tie as tie
+use Rattle.instants.proofs.seconds.utc_ms.Statement.{statement}
+use Rattle.instants.proofs.seconds.utc_ms.Tie as tie
 
 module _ (c : tie.Start) where
   day : Holds (bits (c .args .day)) (c .args .day) 36524

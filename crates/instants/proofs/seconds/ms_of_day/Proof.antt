@@ -3,8 +3,8 @@ use Prim.Native.Nat.{_+_, _*_}
 use lib.IntN.{pos, _+ℤ_, _*ℤ_}
 use Rattle.words.specs.Holds.{Holds, bits, _+ʷ_, _*ʷ_, lit, arg, add, add-ok, mul, mul-ok}
 use Rattle.rules.specs.Dates.{msOfDay}
-use Rattle.calendar.proofs.seconds.ms_of_day.Statement.{statement}
-use Rattle.calendar.proofs.seconds.ms_of_day.Tie as tie
+use Rattle.instants.proofs.seconds.ms_of_day.Statement.{statement}
+use Rattle.instants.proofs.seconds.ms_of_day.Tie as tie
 
 module _ (c : tie.Start) where
   hour : Holds (bits (c .args .hour)) (c .args .hour) 23

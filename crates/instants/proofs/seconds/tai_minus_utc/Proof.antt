@@ -16,8 +16,8 @@ use borrow.Author.Needs.{needs}
 use Rattle.words.specs.Holds.{Holds, bits, nat, lit, add-ok}
 use Rattle.words.specs.Fits.{fits64}
 use Rattle.laws.specs.Seconds.{stepNumbers, upTo, up-to-le, up-to-drop, step-le, tai-is}
-use Rattle.calendar.proofs.seconds.tai_minus_utc.Statement.{statement}
-use Rattle.calendar.proofs.seconds.tai_minus_utc.Tie as tie
+use Rattle.instants.proofs.seconds.tai_minus_utc.Statement.{statement}
+use Rattle.instants.proofs.seconds.tai_minus_utc.Tie as tie
 
 abbrev Inv-loop : tie.InvT-loop
 Inv-loop day seconds₀ k₀ seconds k =

@@ -1,4 +1,4 @@
--- `calendar::instants` meets its contract.
+-- `instants::instants` meets its contract.
 use mathlib.Core.Path.{_≡_, sym, _∙_}
 use mathlib.Core.Bool.{Bool, true, false}
 use Prim.Native.Nat.{_^_}
@@ -14,8 +14,8 @@ use Rattle.rules.specs.Calendar.{yearRefused, dayRefused, dayNumber}
 use Rattle.rules.specs.Dates.{timeRefused, differenceRefused, msOfDay, utc, utOf, ttOf, instants}
 use Rattle.laws.specs.DayNumbers.{RealDate, real-date, real-number-le}
 use Rattle.laws.specs.Instants.{RealMoment, real-moment, ms-of-day-le}
-use Rattle.calendar.proofs.instants.Statement.{statement}
-use Rattle.calendar.proofs.instants.Tie as tie
+use Rattle.instants.proofs.instants.Statement.{statement}
+use Rattle.instants.proofs.instants.Tie as tie
 
 -- ---- the parts of the moment
 

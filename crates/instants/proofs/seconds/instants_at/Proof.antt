@@ -6,8 +6,8 @@ use Rattle.words.specs.Holds.{Holds, bits, _+ʷ_, _-ʷ_, _*ʷ_, lit, got, arg, 
 use Rattle.rules.specs.Dates.{taiMinusUtc}
 use Rattle.laws.specs.Seconds.{tai-le}
 use Rattle.laws.specs.Parts.{utcAt}
-use Rattle.calendar.proofs.seconds.instants_at.Statement.{statement}
-use Rattle.calendar.proofs.seconds.instants_at.Tie as tie
+use Rattle.instants.proofs.seconds.instants_at.Statement.{statement}
+use Rattle.instants.proofs.seconds.instants_at.Tie as tie
 
 abbrev most : ℕ
 most = 36524 * 86400000 + 86400999 + 43200000
