@@ -48,7 +48,7 @@ fn begin_for(count: usize, asked: Asked) -> Begun
     ensures { λ r. ⌜ r ≡ rule.begunFor count asked ⌝ }
 {
     match asked {
-        Asked::For(moment, site) => begin_in(count, place::night_of(moment, site)),
+        Asked::For(moment, site) => begin_in(count, night::night_of(moment, site)),
         Asked::Other => Begun::Refused(0),
     }
 }

@@ -1,4 +1,4 @@
--- `place::night_of` meets its contract: the instants of a date are within a century.
+-- `night::night_of` meets its contract: the instants of a date are within a century.
 use mathlib.Core.Path.{_≡_, sym, ap, _∙_}
 use borrow.Author.Needs.{needs}
 use Rattle.rules.specs.declared.Ut.{Ut}
@@ -7,8 +7,8 @@ use Rattle.rules.specs.declared.Instants.{Instants}
 use Rattle.rules.specs.Dates.{instants}
 use Rattle.rules.specs.Night.{nightOf, nightAt}
 use Rattle.laws.specs.Instants.{ut-within, tt-within}
-use Rattle.place.proofs.night_of.Statement.{statement}
-use Rattle.place.proofs.night_of.Tie as tie
+use Rattle.night.proofs.night_of.Statement.{statement}
+use Rattle.night.proofs.night_of.Tie as tie
 
 instants-requires : tie.Need-instants-requires
 instants-requires c κs = search needs

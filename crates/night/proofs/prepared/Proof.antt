@@ -1,11 +1,11 @@
--- `place::prepared` meets its contract.
+-- `night::prepared` meets its contract.
 use mathlib.Core.Path.{_≡_, sym, ap, _∙_}
 use mathlib.Core.Bool.{true, false}
 use borrow.Author.Needs.{needs}
 use Rattle.rules.specs.declared.Prepared.{Prepared}
 use Rattle.rules.specs.Night.{siteRefused, nightAt}
-use Rattle.place.proofs.prepared.Statement.{statement}
-use Rattle.place.proofs.prepared.Tie as tie
+use Rattle.night.proofs.prepared.Statement.{statement}
+use Rattle.night.proofs.prepared.Tie as tie
 
 site-refused-requires : tie.Need-site-refused-requires
 site-refused-requires c κs = search needs

@@ -1,4 +1,4 @@
--- `place::site_refused` meets its contract.
+-- `night::site_refused` meets its contract.
 use mathlib.Core.Path.{_≡_, sym, ap, _∙_}
 use mathlib.Core.Bool.{true, false, not, _&&_}
 use borrow.Author.Needs.{needs}
@@ -6,8 +6,8 @@ use Rattle.words.specs.Fits.{held64}
 use Rattle.words.specs.Tests.{not-taken, not-left}
 use Rattle.rules.specs.Units.{half, quarter, within}
 use Rattle.rules.specs.Night.{siteRefused}
-use Rattle.place.proofs.site_refused.Statement.{statement}
-use Rattle.place.proofs.site_refused.Tie as tie
+use Rattle.night.proofs.site_refused.Statement.{statement}
+use Rattle.night.proofs.site_refused.Tie as tie
 
 sub-is-between : tie.Need-sub-is-between
 sub-is-between c = search needs

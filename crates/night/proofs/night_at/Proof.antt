@@ -19,9 +19,9 @@ use Rattle.rules.specs.Night.{aberration, localSidereal, night}
 use Rattle.laws.specs.Angles.{pair-sized, pair-opposite}
 use Rattle.laws.specs.Nutation.{ten-terms}
 use Rattle.laws.specs.Night.{site-ranges, obliquity-le}
-use Rattle.place.specs.Parts.{opposite}
-use Rattle.place.proofs.night.night_at.Statement.{statement}
-use Rattle.place.proofs.night.night_at.Tie as tie
+use Rattle.night.specs.Parts.{opposite}
+use Rattle.night.proofs.night_at.Statement.{statement}
+use Rattle.night.proofs.night_at.Tie as tie
 
 precession-of-requires : tie.Need-precession-of-requires
 precession-of-requires c κs = search needs

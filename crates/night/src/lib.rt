@@ -1,8 +1,12 @@
 // All of a place that date and site alone decide.
 
 use rules::Direction;
+use rules::Instants;
+use rules::Moment;
 use rules::Night;
 use rules::Pair;
+use rules::Prepared;
+use rules::Refusal;
 use rules::Site;
 use rules::Tt;
 use rules::Ut;
@@ -14,20 +18,61 @@ ghost use Rattle.rules.specs.Rounding.{rnd, remainder};
 ghost use Rattle.rules.specs.Circle.{pair};
 ghost use Rattle.rules.specs.Sidereal.{sidereal};
 ghost use Rattle.rules.specs.Night as rule;
+ghost use Rattle.rules.specs.declared.Instants.{Instants};
 ghost use Rattle.laws.specs.Angles.{Sized};
-ghost use Rattle.place.specs.Given.{ScaledFits, LocalFits, SiteFits};
-ghost use Rattle.place.specs.Parts.{opposite};
+ghost use Rattle.laws.specs.Instant.{InRange};
+ghost use Rattle.night.specs.Given.{ScaledFits, LocalFits, SiteFits};
+ghost use Rattle.night.specs.Parts.{opposite};
 
-// C and a quarter of it, in µas.
+// C, a quarter and half of it, in µas.
 const CIRCLE: i64 = 1296000000000;
 
 const QUARTER: i64 = 324000000000;
+
+const HALF: i64 = 648000000000;
 
 // 1 in a cosine or a sine.
 const UNIT: i64 = 1073741824;
 
 // The constant of aberration, in parts of 2^30.
 const ABERRATION: i64 = 106692;
+
+// All that a moment and a site decide, for any number of stars.
+//
+// Given: moment (UTC, UT1-UTC in ms), site: any.
+// Returned: the night; refusals 1 to 4, 6.
+// Rule: 01, "Turns, readings, place", steps 3 to 6.
+pub fn night_of(moment: Moment, site: Site) -> Prepared
+    ensures { λ r. ⌜ r ≡ rule.nightOf moment site ⌝ }
+{
+    let instants = instants::instants(moment);
+    match instants {
+        Instants::At(ut, tt) => prepared(ut, tt, site),
+        Instants::Refused(r) => Prepared::Refused(r),
+    }
+}
+
+// The night at instants of a date: 6.
+fn prepared(ut: Ut, tt: Tt, site: Site) -> Prepared
+    requires { ⌜ InRange (ut .0) ⌝ }
+    requires { ⌜ InRange (tt .0) ⌝ }
+    ensures { λ r. ⌜ r ≡ rule.nightAt (Instants.At ut tt) site ⌝ }
+{
+    if site_refused(site) {
+        return Prepared::Refused(Refusal::Site);
+    }
+    Prepared::For(night_at(ut, tt, site))
+}
+
+// Refusal 6: the ranges of a site.
+pub fn site_refused(site: Site) -> bool
+    ensures { λ r. ⌜ r ≡ rule.siteRefused site ⌝ }
+{
+    if !whole::is_between(-QUARTER, QUARTER, site.latitude) {
+        return true;
+    }
+    !whole::is_between(-HALF, HALF, site.longitude)
+}
 
 // The night of a date and a site that are not refused.
 //
