@@ -1,9 +1,9 @@
 // The line that `places` reads.
 ghost use mathlib.Core.Path.{_≡_};
 ghost use Rattle.asking.specs.Asking as rule;
+use fields::line_of;
 use fields::of_number;
 use fields::signed;
-use fields::line_of;
 use rules::Line;
 use rules::Moment;
 use rules::Site;

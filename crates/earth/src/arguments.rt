@@ -1,7 +1,7 @@
 // The five arguments of nutation, of TT.
 
-use polynomials::refused_instant;
 use polynomials::cubic;
+use polynomials::refused_instant;
 use rules::Argued;
 use rules::Arguments;
 use rules::Refusal;

@@ -1,7 +1,7 @@
 // Precession from J2000 and the mean obliquity, of TT.
 
-use polynomials::refused_instant;
 use polynomials::cubic;
+use polynomials::refused_instant;
 use rules::Angle;
 use rules::Precessed;
 use rules::Precession;

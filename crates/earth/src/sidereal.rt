@@ -1,7 +1,7 @@
 // The sidereal angle, of UT.
 
-use polynomials::refused_instant;
 use polynomials::cubic;
+use polynomials::refused_instant;
 use rules::Angle;
 use rules::Refusal;
 use rules::Ut;

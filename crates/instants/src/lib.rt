@@ -1,11 +1,11 @@
 // The two instants of a UTC date, document 01, "Dates".
 ghost use mathlib.Core.Path.{_≡_};
 ghost use Rattle.rules.specs.Dates as rule;
-use calendar::dates::day_number;
-use calendar::dates::day_refused;
 use crate::seconds::instants_at;
 use crate::seconds::ms_of_day;
 use crate::seconds::time_refused;
+use calendar::dates::day_number;
+use calendar::dates::day_refused;
 use rules::Instants;
 use rules::Moment;
 use rules::Refusal;

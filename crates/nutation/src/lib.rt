@@ -1,10 +1,10 @@
 // Nutation by its ten largest terms, of TT.
 
-use earth::arguments::arguments_of;
-use polynomials::refused_instant;
-use polynomials::linear;
 use crate::terms::term_at;
 use circle::pair;
+use earth::arguments::arguments_of;
+use polynomials::linear;
+use polynomials::refused_instant;
 use rules::Arguments;
 use rules::Nutated;
 use rules::Nutation;

@@ -10,14 +10,14 @@ ghost use Rattle.rules.specs.NightList as nights;
 ghost use Rattle.laws.specs.Night.{NightFits};
 ghost use Rattle.place_lines.specs.Answers as rule;
 ghost use Rattle.sexagesimal.specs.Sexagesimal.{spaced};
-use sexagesimal::put_bearing;
-use sexagesimal::put_elevation;
-use sexagesimal::put_hours;
 use decimals::put;
 use rules::Entry;
 use rules::Night;
 use rules::Place;
 use rules::Star;
+use sexagesimal::put_bearing;
+use sexagesimal::put_elevation;
+use sexagesimal::put_hours;
 use stars::star_refused;
 
 // A star of a night as an entry.

@@ -1,10 +1,10 @@
 // A list file written: its records, its head, and a whole file from a row of numbers.
 
-use star_file::Plan;
-use star_bytes::put_number;
 use rules::Entry;
 use rules::Listed;
 use rules::Refusal;
+use star_bytes::put_number;
+use star_file::Plan;
 use stars::numbers_refused;
 use stars::star_refused;
 ghost use mathlib.Core.Path.{_≡_};

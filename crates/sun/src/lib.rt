@@ -1,10 +1,10 @@
 // The Sun's longitude, of TT.
 
+use circle::pair;
 use earth::arguments::sun_of;
-use polynomials::refused_instant;
 use polynomials::linear;
 use polynomials::quadratic;
-use circle::pair;
+use polynomials::refused_instant;
 use rules::Angle;
 use rules::Refusal;
 use rules::Tt;
