@@ -9,8 +9,8 @@ use borrow.Author.Needs.{needs}
 use Rattle.words.specs.Fits.{held64}
 use Rattle.laws.specs.ByteByByte.{lowBytes, low-length}
 use Rattle.star_bytes.specs.Puts.{put, put-put}
-use Rattle.star_writing.proofs.put_pair.Statement.{statement}
-use Rattle.star_writing.proofs.put_pair.Tie as tie
+use Rattle.star_records.proofs.put_pair.Statement.{statement}
+use Rattle.star_records.proofs.put_pair.Tie as tie
 
 put-number-requires : tie.Need-put-number-requires
 put-number-requires c κs = search needs

@@ -9,9 +9,9 @@ use Rattle.words.specs.Fits.{held64}
 use Rattle.laws.specs.ByteByByte.{lowBytes}
 use Rattle.stars.specs.Numbers.{starOf}
 use Rattle.star_bytes.specs.Puts.{put, put-put}
-use Rattle.star_writing.specs.Records.{pair-length, low-pairs}
-use Rattle.star_writing.proofs.put_star.Statement.{statement}
-use Rattle.star_writing.proofs.put_star.Tie as tie
+use Rattle.star_records.specs.Records.{pair-length, low-pairs}
+use Rattle.star_records.proofs.put_star.Statement.{statement}
+use Rattle.star_records.proofs.put_star.Tie as tie
 
 put-pair-requires : tie.Need-put-pair-requires
 put-pair-requires c κs = search needs

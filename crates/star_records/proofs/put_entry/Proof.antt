@@ -7,9 +7,9 @@ use Rattle.words.specs.Holds.{widened, widened-ok}
 use Rattle.laws.specs.StarWidths.{StarFits}
 use Rattle.stars.specs.Numbers.{starOf}
 use Rattle.star_bytes.specs.Puts.{put}
-use Rattle.star_writing.specs.Records.{lowRecord, low-record}
-use Rattle.star_writing.proofs.put_entry.Statement.{statement}
-use Rattle.star_writing.proofs.put_entry.Tie as tie
+use Rattle.star_records.specs.Records.{lowRecord, low-record}
+use Rattle.star_records.proofs.put_entry.Statement.{statement}
+use Rattle.star_records.proofs.put_entry.Tie as tie
 
 mul-put-star : tie.Need-mul-put-star
 mul-put-star c = search needs

@@ -6,8 +6,8 @@ use native.Mathlib.Omega.{arith}
 use lib.Seq.{lt-length-sets, sets-eq}
 use borrow.Author.Needs.{needs}
 use Rattle.star_bytes.specs.Puts.{put}
-use Rattle.star_writing.proofs.put_head.Statement.{statement}
-use Rattle.star_writing.proofs.put_head.Tie as tie
+use Rattle.star_records.proofs.put_head.Statement.{statement}
+use Rattle.star_records.proofs.put_head.Tie as tie
 
 slice-write-room : tie.Need-slice-write-room
 slice-write-room c = search needs
