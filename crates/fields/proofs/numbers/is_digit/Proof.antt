@@ -1,8 +1,8 @@
 -- `lines::fields::is_digit` meets its contract.
 use borrow.Author.Tests.{le-leb, lt-leb}
 use Rattle.rules.specs.Lines.{isDigit}
-use Rattle.fields.proofs.is_digit.Statement.{statement}
-use Rattle.fields.proofs.is_digit.Tie as tie
+use Rattle.fields.proofs.numbers.is_digit.Statement.{statement}
+use Rattle.fields.proofs.numbers.is_digit.Tie as tie
 
 returns : tie.Need-returns
 unfolding isDigit

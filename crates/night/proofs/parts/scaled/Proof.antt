@@ -6,8 +6,8 @@ use lib.IntN.{_*ℤ_}
 use Rattle.words.specs.Fits.{held64}
 use Rattle.words.specs.Holds.{Holds, bits, _*ʷ_, arg, mul, mul-ok}
 use Rattle.rules.specs.Units.{unit}
-use Rattle.night.proofs.scaled.Statement.{statement}
-use Rattle.night.proofs.scaled.Tie as tie
+use Rattle.night.proofs.parts.scaled.Statement.{statement}
+use Rattle.night.proofs.parts.scaled.Tie as tie
 
 k-holds : (c : tie.Start) → Holds (bits (c .args .k)) (c .args .k) (2 ^ 31)
 k-holds c = arg (c .args .k) (c .pre .number-le) tt

@@ -7,8 +7,8 @@ use lib.Signed.{ltZ-yes}
 use Rattle.words.specs.Holds.{Holds, bits, _-ʷ_, arg, lit, sub, sub-ok, div-ok, rem}
 use Rattle.rules.specs.Units.{circle, quarter}
 use Rattle.rules.specs.Rounding.{remainder}
-use Rattle.night.proofs.latitude_pair.Statement.{statement}
-use Rattle.night.proofs.latitude_pair.Tie as tie
+use Rattle.night.proofs.parts.latitude_pair.Statement.{statement}
+use Rattle.night.proofs.parts.latitude_pair.Tie as tie
 
 latitude-holds : (c : tie.Start) → Holds (bits (c .args .latitude)) (c .args .latitude) (2 ^ 60)
 latitude-holds c = arg (c .args .latitude) (c .pre) tt

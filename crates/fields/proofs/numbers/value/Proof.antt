@@ -5,8 +5,8 @@ use native.Mathlib.Omega.{arith}
 use lib.IntN.{pos}
 use borrow.Author.Needs.{needs}
 use Rattle.words.specs.Holds.{Holds, nat, lit, sub-ok, sub-nat}
-use Rattle.fields.proofs.value.Statement.{statement}
-use Rattle.fields.proofs.value.Tie as tie
+use Rattle.fields.proofs.numbers.value.Statement.{statement}
+use Rattle.fields.proofs.numbers.value.Tie as tie
 
 cast-result : tie.Need-cast-result
 cast-result c = search needs

@@ -12,8 +12,8 @@ use Rattle.rules.specs.Units.{unit}
 use Rattle.rules.specs.Rounding.{rnd}
 use Rattle.rules.specs.Night.{aberrationConstant, aberrationX, aberrationY, aberration}
 use Rattle.laws.specs.Night.{scaled-le}
-use Rattle.night.proofs.aberration.Statement.{statement}
-use Rattle.night.proofs.aberration.Tie as tie
+use Rattle.night.proofs.parts.aberration.Statement.{statement}
+use Rattle.night.proofs.parts.aberration.Tie as tie
 
 module _ (c : tie.Start) where
   sun-cosine-holds : Holds (bits (c .args .s .cosine)) (c .args .s .cosine) unit

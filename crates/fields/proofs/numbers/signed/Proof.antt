@@ -13,8 +13,8 @@ use Rattle.integers.specs.Size.{abs-neg}
 use Rattle.words.specs.Holds.{Holds, bits, got, negate, negate-ok}
 use Rattle.rules.specs.Lines.{negative, unsigned, spelled, signed}
 use Rattle.laws.specs.Lines.{negative-length, to-end, unsigned-is, most, most-le-12}
-use Rattle.fields.proofs.signed.Statement.{statement}
-use Rattle.fields.proofs.signed.Tie as tie
+use Rattle.fields.proofs.numbers.signed.Statement.{statement}
+use Rattle.fields.proofs.numbers.signed.Tie as tie
 
 negative-requires : tie.Need-negative-requires
 negative-requires c κs = search needs

@@ -6,8 +6,8 @@ use lib.ListN.{length}
 use borrow.Author.Needs.{needs}
 use Rattle.rules.specs.Lines.{negative, ofDigits, ofNumber}
 use Rattle.laws.specs.Lines.{negative-length, to-end, unsigned-is}
-use Rattle.fields.proofs.of_number.Statement.{statement}
-use Rattle.fields.proofs.of_number.Tie as tie
+use Rattle.fields.proofs.numbers.of_number.Statement.{statement}
+use Rattle.fields.proofs.numbers.of_number.Tie as tie
 
 negative-requires : tie.Need-negative-requires
 negative-requires c κs = search needs

@@ -9,8 +9,8 @@ use borrow.Author.Needs.{needs}
 use borrow.Author.Tests.{not-true, not-false, le-leb, lt-leb}
 use Rattle.rules.specs.Lines.{nought, isDigit, digits, ofForm, ofDigits}
 use Rattle.laws.specs.Lines.{digits-step, form-end}
-use Rattle.fields.proofs.of_digits.Statement.{statement}
-use Rattle.fields.proofs.of_digits.Tie as tie
+use Rattle.fields.proofs.numbers.of_digits.Statement.{statement}
+use Rattle.fields.proofs.numbers.of_digits.Tie as tie
 
 abbrev Inv-loop : tie.InvT-loop
 Inv-loop s most i₀ i =

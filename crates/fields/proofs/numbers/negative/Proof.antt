@@ -3,8 +3,8 @@ use mathlib.Core.Path.{sym}
 use native.Mathlib.Omega.{arith}
 use borrow.Author.Needs.{needs}
 use Rattle.laws.specs.Lines.{negative-at, negative-none}
-use Rattle.fields.proofs.negative.Statement.{statement}
-use Rattle.fields.proofs.negative.Tie as tie
+use Rattle.fields.proofs.numbers.negative.Statement.{statement}
+use Rattle.fields.proofs.numbers.negative.Tie as tie
 
 returns : tie.Need-returns
 returns c = sym (negative-none _ (omega arith))

@@ -1,9 +1,9 @@
--- `star_file::reading::entry_at` meets its contract.
+-- `star_file::entries::entry_at` meets its contract.
 use mathlib.Core.Path.{ap}
 use borrow.Author.Needs.{needs}
 use Rattle.rules.specs.StarList.{freshEntry}
-use Rattle.star_file.proofs.reading.entry_at.Statement.{statement}
-use Rattle.star_file.proofs.reading.entry_at.Tie as tie
+use Rattle.star_file.proofs.entries.entry_at.Statement.{statement}
+use Rattle.star_file.proofs.entries.entry_at.Tie as tie
 
 mul-star-at : tie.Need-mul-star-at
 mul-star-at c = search needs

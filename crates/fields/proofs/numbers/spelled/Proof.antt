@@ -11,8 +11,8 @@ use borrow.Author.Needs.{needs}
 use Rattle.words.specs.Holds.{Holds, bits, _*ʷ_, nat, lit, got, add-ok, mul, mul-ok}
 use Rattle.rules.specs.Lines.{spelled}
 use Rattle.laws.specs.Lines.{spelled-step, spelled-end, most, most-suc, most-le-12}
-use Rattle.fields.proofs.spelled.Statement.{statement}
-use Rattle.fields.proofs.spelled.Tie as tie
+use Rattle.fields.proofs.numbers.spelled.Statement.{statement}
+use Rattle.fields.proofs.numbers.spelled.Tie as tie
 
 abbrev Inv-loop : tie.InvT-loop
 Inv-loop s n₀ i₀ n i = (i ≤ length s) × ((n ≤ most i) × (spelled n (drop i s) ≡ spelled 0 s))

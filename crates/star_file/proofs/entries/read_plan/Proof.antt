@@ -1,4 +1,4 @@
--- `star_file::reading::read_plan` meets its contract.
+-- `star_file::entries::read_plan` meets its contract.
 use mathlib.Core.Path.{sym, _∙_, ap}
 use borrow.Author.Needs.{needs}
 use borrow.Author.Tests.{lt-ltb, le-ltb}
@@ -6,8 +6,8 @@ use Rattle.rules.specs.declared.Listed.{Listed}
 use Rattle.rules.specs.StarList.{readInto, leaving}
 use Rattle.laws.specs.StarList.{file-accepted}
 use Rattle.star_file.specs.Plans.{planOf, readPlan}
-use Rattle.star_file.proofs.reading.read_plan.Statement.{statement}
-use Rattle.star_file.proofs.reading.read_plan.Tie as tie
+use Rattle.star_file.proofs.entries.read_plan.Statement.{statement}
+use Rattle.star_file.proofs.entries.read_plan.Tie as tie
 
 list-count-requires : tie.Need-list-count-requires
 list-count-requires c κs = search needs

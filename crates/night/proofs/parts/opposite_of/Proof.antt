@@ -5,8 +5,8 @@ use Prim.Native.Nat.{_^_}
 use lib.IntN.{ℤ}
 use Rattle.words.specs.Holds.{Holds, bits, arg, negate, negate-ok}
 use Rattle.rules.specs.Units.{unit}
-use Rattle.night.proofs.opposite_of.Statement.{statement}
-use Rattle.night.proofs.opposite_of.Tie as tie
+use Rattle.night.proofs.parts.opposite_of.Statement.{statement}
+use Rattle.night.proofs.parts.opposite_of.Tie as tie
 
 cosine-holds : (c : tie.Start) → Holds (bits (c .args .p .cosine)) (c .args .p .cosine) unit
 cosine-holds c = arg (c .args .p .cosine) (c .pre .cosine-le) tt

@@ -14,8 +14,8 @@ use Rattle.rules.specs.Units.{circle, unit}
 use Rattle.rules.specs.Rounding.{rnd, remainder}
 use Rattle.rules.specs.Sidereal.{sidereal}
 use Rattle.laws.specs.Night.{scaled-le, sidereal-le}
-use Rattle.night.proofs.sidereal_pair.Statement.{statement}
-use Rattle.night.proofs.sidereal_pair.Tie as tie
+use Rattle.night.proofs.parts.sidereal_pair.Statement.{statement}
+use Rattle.night.proofs.parts.sidereal_pair.Tie as tie
 
 sidereal-of-requires : tie.Need-sidereal-of-requires
 sidereal-of-requires c κs = search needs
