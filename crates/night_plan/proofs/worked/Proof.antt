@@ -1,10 +1,10 @@
--- `night_list::worked` meets its contract.
+-- `night_plan::worked` meets its contract.
 use mathlib.Core.Path.{sym, _∙_, ap, subst}
 use borrow.Author.Needs.{needs}
 use Rattle.rules.specs.NightList.{worked}
-use Rattle.night_list.specs.Plans.{workedBy, PreparedFits}
-use Rattle.night_list.proofs.worked.Statement.{statement}
-use Rattle.night_list.proofs.worked.Tie as tie
+use Rattle.night_plan.specs.Plans.{workedBy, PreparedFits}
+use Rattle.night_plan.proofs.worked.Statement.{statement}
+use Rattle.night_plan.proofs.worked.Tie as tie
 
 enum-told : tie.Need-enum-told
 enum-told c = search needs

@@ -1,9 +1,9 @@
--- `night_list::plan_of` meets its contract.
+-- `night_plan::plan_of` meets its contract.
 use mathlib.Core.Path.{_∙_, ap}
 use borrow.Author.Needs.{needs}
-use Rattle.night_list.specs.Plans.{planOf}
-use Rattle.night_list.proofs.plan_of.Statement.{statement}
-use Rattle.night_list.proofs.plan_of.Tie as tie
+use Rattle.night_plan.specs.Plans.{planOf}
+use Rattle.night_plan.proofs.plan_of.Statement.{statement}
+use Rattle.night_plan.proofs.plan_of.Tie as tie
 
 night-of-requires : tie.Need-night-of-requires
 night-of-requires c κs = search needs

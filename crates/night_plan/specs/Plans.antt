@@ -8,7 +8,7 @@ use Rattle.rules.specs.declared.Refusal.{Refusal}
 use Rattle.rules.specs.declared.Listed.{Listed}
 use Rattle.rules.specs.NightList.{worked}
 use Rattle.laws.specs.Night.{NightFits}
-use Rattle.night_list.specs.declared.Plan.{Plan}
+use Rattle.night_plan.specs.declared.Plan.{Plan}
 
 -- all entries, or none where the night or their number is refused
 unfoldable pub todoOf : Prepared → ℕ → ℕ

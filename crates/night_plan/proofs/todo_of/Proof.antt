@@ -1,9 +1,9 @@
--- `night_list::todo_of` meets its contract.
+-- `night_plan::todo_of` meets its contract.
 use borrow.Author.Needs.{needs}
 use borrow.Author.Tests.{lt-ltb, le-ltb}
-use Rattle.night_list.specs.Plans.{todoOf}
-use Rattle.night_list.proofs.todo_of.Statement.{statement}
-use Rattle.night_list.proofs.todo_of.Tie as tie
+use Rattle.night_plan.specs.Plans.{todoOf}
+use Rattle.night_plan.proofs.todo_of.Statement.{statement}
+use Rattle.night_plan.proofs.todo_of.Tie as tie
 
 enum-told : tie.Need-enum-told
 enum-told c = search needs

@@ -1,12 +1,12 @@
--- `night_list::tally` meets its contract.
+-- `night_plan::tally` meets its contract.
 use mathlib.Core.Path.{_≡_, sym, ap, _∙_}
 use mathlib.Core.Bool.{cond}
 use Prim.Native.Nat.{_+_}
 use native.Mathlib.Omega.{arith}
 use borrow.Author.Needs.{needs}
 use borrow.Author.Tests.{eq-eqb, ne-eqb}
-use Rattle.night_list.proofs.tally.Statement.{statement}
-use Rattle.night_list.proofs.tally.Tie as tie
+use Rattle.night_plan.proofs.tally.Statement.{statement}
+use Rattle.night_plan.proofs.tally.Tie as tie
 
 add-result : tie.Need-add-result
 add-result c = search needs

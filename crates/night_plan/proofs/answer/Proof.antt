@@ -1,9 +1,9 @@
--- `night_list::answer` meets its contract.
+-- `night_plan::answer` meets its contract.
 use borrow.Author.Needs.{needs}
 use borrow.Author.Tests.{lt-ltb, le-ltb}
-use Rattle.night_list.specs.Plans.{answered, answerOf}
-use Rattle.night_list.proofs.answer.Statement.{statement}
-use Rattle.night_list.proofs.answer.Tie as tie
+use Rattle.night_plan.specs.Plans.{answered, answerOf}
+use Rattle.night_plan.proofs.answer.Statement.{statement}
+use Rattle.night_plan.proofs.answer.Tie as tie
 
 enum-known-night : tie.Need-enum-known-night
 enum-known-night c = search needs
