@@ -2,11 +2,11 @@
 use lib.ListN.{getD}
 use lib.IntN.{pos, natAbs}
 use Rattle.rules.specs.Refusals.{Answer}
-use Rattle.module.specs.declared.places.TurbelicusPlaced.{TurbelicusPlaced}
-use Rattle.module.specs.declared.turns.TurbelicusTurned.{TurbelicusTurned}
-use Rattle.module.specs.declared.lists.TurbelicusCounted.{TurbelicusCounted}
-use Rattle.module.specs.declared.lists.TurbelicusStarred.{TurbelicusStarred}
-use Rattle.module.specs.declared.lists.TurbelicusWritten.{TurbelicusWritten}
+use Rattle.answers.specs.declared.places.TurbelicusPlaced.{TurbelicusPlaced}
+use Rattle.answers.specs.declared.turns.TurbelicusTurned.{TurbelicusTurned}
+use Rattle.answers.specs.declared.lists.TurbelicusCounted.{TurbelicusCounted}
+use Rattle.answers.specs.declared.lists.TurbelicusStarred.{TurbelicusStarred}
+use Rattle.answers.specs.declared.lists.TurbelicusWritten.{TurbelicusWritten}
 
 unfoldable pub placedOut : Answer → TurbelicusPlaced
 placedOut a = record {

@@ -1,13 +1,13 @@
--- `module::turns::turned_out` meets its contract.
+-- `answers::turns::turned_out` meets its contract.
 use mathlib.Core.Path.{_≡_, _∙_}
 use borrow.Author.Needs.{needs}
 use mir.Syntax.{w64}
 use mir.Val.{toZ, ofZ}
 use Rattle.rules.specs.Refusals.{given, refused, turnedAnswer}
 use Rattle.words.specs.Fits.{held64}
-use Rattle.module.specs.Answers.{turnedOut}
-use Rattle.module.proofs.turns.turned_out.Statement.{statement}
-use Rattle.module.proofs.turns.turned_out.Tie as tie
+use Rattle.answers.specs.Answers.{turnedOut}
+use Rattle.answers.proofs.turns.turned_out.Statement.{statement}
+use Rattle.answers.proofs.turns.turned_out.Tie as tie
 
 enum-known-a : tie.Need-enum-known-a
 enum-known-a c = search needs

@@ -1,13 +1,13 @@
--- `module::lists::starred_out` meets its contract.
+-- `answers::lists::starred_out` meets its contract.
 use mathlib.Core.Path.{_≡_, _∙_}
 use borrow.Author.Needs.{needs}
 use mir.Syntax.{w32, w64}
 use mir.Val.{toZ, ofZ}
 use Rattle.rules.specs.Refusals.{given, refused, starredAnswer}
 use Rattle.words.specs.Fits.{held64}
-use Rattle.module.specs.Answers.{starredOut}
-use Rattle.module.proofs.lists.starred_out.Statement.{statement}
-use Rattle.module.proofs.lists.starred_out.Tie as tie
+use Rattle.answers.specs.Answers.{starredOut}
+use Rattle.answers.proofs.lists.starred_out.Statement.{statement}
+use Rattle.answers.proofs.lists.starred_out.Tie as tie
 
 enum-known-a : tie.Need-enum-known-a
 enum-known-a c = search needs
