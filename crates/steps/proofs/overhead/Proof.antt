@@ -5,8 +5,8 @@ use Rattle.rules.specs.Turning.{turnBy}
 use Rattle.rules.specs.Place.{overhead}
 use Rattle.laws.specs.Turning.{turnBy-accepted}
 use Rattle.turning.specs.Given.{TurnFits}
-use Rattle.place.proofs.steps.overhead.Statement.{statement}
-use Rattle.place.proofs.steps.overhead.Tie as tie
+use Rattle.steps.proofs.overhead.Statement.{statement}
+use Rattle.steps.proofs.overhead.Tie as tie
 
 turn-by-requires : tie.Need-turn-by-requires
 turn-by-requires c κs =

@@ -3,8 +3,8 @@ use mathlib.Core.Path.{_≡_}
 use Prim.Native.Nat.{ℕ, _+_, _≤_, _^_}
 use lib.IntN.{ℤ, natAbs, _+ℤ_}
 use Rattle.words.specs.Holds.{Holds, bits, _+ʷ_, arg, add, add-ok}
-use Rattle.place.proofs.steps.sum.Statement.{statement}
-use Rattle.place.proofs.steps.sum.Tie as tie
+use Rattle.steps.proofs.sum.Statement.{statement}
+use Rattle.steps.proofs.sum.Tie as tie
 
 part-holds : (z : ℤ) → natAbs z ≤ 2 ^ 60 → Holds (bits z) z (2 ^ 60)
 part-holds z h = arg z h tt

@@ -8,8 +8,8 @@ use Rattle.rules.specs.Turning.{Accepted, turnBy}
 use Rattle.rules.specs.Place.{nutated}
 use Rattle.laws.specs.Turning.{turnBy-accepted}
 use Rattle.turning.specs.Given.{TurnFits}
-use Rattle.place.proofs.steps.nutated.Statement.{statement}
-use Rattle.place.proofs.steps.nutated.Tie as tie
+use Rattle.steps.proofs.nutated.Statement.{statement}
+use Rattle.steps.proofs.nutated.Tie as tie
 
 abbrev first : tie.Start → Direction
 first c = turnBy (+ 1) (c .args .n .mean) (c .args .v)

@@ -6,8 +6,8 @@ use Rattle.rules.specs.Length.{toLength}
 use Rattle.rules.specs.Place.{aberrated}
 use Rattle.laws.specs.Directions.{accepted-parts}
 use Rattle.laws.specs.Aberration.{plus-fits, plus-root-ge}
-use Rattle.place.proofs.steps.aberrated.Statement.{statement}
-use Rattle.place.proofs.steps.aberrated.Tie as tie
+use Rattle.steps.proofs.aberrated.Statement.{statement}
+use Rattle.steps.proofs.aberrated.Tie as tie
 
 sum-requires : tie.Need-sum-requires
 sum-requires c κs =

@@ -15,8 +15,8 @@ use Rattle.rules.specs.Place.{directed}
 use Rattle.laws.specs.Angles.{pair-length}
 use Rattle.laws.specs.Turning.{turnBy-accepted}
 use Rattle.laws.specs.Place.{ahead, ahead-accepted}
-use Rattle.place.proofs.steps.directed.Statement.{statement}
-use Rattle.place.proofs.steps.directed.Tie as tie
+use Rattle.steps.proofs.directed.Statement.{statement}
+use Rattle.steps.proofs.directed.Tie as tie
 
 -- ---- the two angles
 

@@ -8,8 +8,8 @@ use Rattle.rules.specs.Turning.{Accepted, turnBy}
 use Rattle.rules.specs.Place.{precessed}
 use Rattle.laws.specs.Turning.{turnBy-accepted}
 use Rattle.turning.specs.Given.{TurnFits}
-use Rattle.place.proofs.steps.precessed.Statement.{statement}
-use Rattle.place.proofs.steps.precessed.Tie as tie
+use Rattle.steps.proofs.precessed.Statement.{statement}
+use Rattle.steps.proofs.precessed.Tie as tie
 
 abbrev first : tie.Start → Direction
 first c = turnBy (+ 3) (c .args .n .zeta) (c .args .v)

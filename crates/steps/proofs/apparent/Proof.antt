@@ -11,8 +11,8 @@ use Rattle.words.specs.Fits.{fits32, fits64, held64}
 use Rattle.rules.specs.declared.Direction.{Direction}
 use Rattle.rules.specs.Place.{moved, directed, precessed, aberrated, nutated, apparent}
 use Rattle.laws.specs.Place.{StarRanges, star-ranges, moved-le, directed-accepted, precessed-accepted, aberrated-accepted}
-use Rattle.place.proofs.steps.apparent.Statement.{statement}
-use Rattle.place.proofs.steps.apparent.Tie as tie
+use Rattle.steps.proofs.apparent.Statement.{statement}
+use Rattle.steps.proofs.apparent.Tie as tie
 
 -- ---- the star's numbers
 

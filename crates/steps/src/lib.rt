@@ -8,7 +8,7 @@ ghost use mathlib.Core.Path.{_≡_};
 ghost use Prim.Native.Nat.{_^_};
 ghost use Rattle.rules.specs.Place as rule;
 ghost use Rattle.laws.specs.Directions.{PartsLe, plus};
-ghost use Rattle.place.specs.Given.{MotionFits, AnglesFit, StepFits, StarFits};
+ghost use Rattle.steps.specs.Given.{MotionFits, AnglesFit, StepFits, StarFits};
 
 // C: the circle, in µas.
 const CIRCLE: i64 = 1296000000000;

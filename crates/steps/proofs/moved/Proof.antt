@@ -14,8 +14,8 @@ use Rattle.rules.specs.Rounding.{rnd}
 use Rattle.rules.specs.Place.{moved}
 use Rattle.laws.specs.Rounding.{rnd-under}
 use Rattle.laws.specs.Product.{motion-fits}
-use Rattle.place.proofs.steps.moved.Statement.{statement}
-use Rattle.place.proofs.steps.moved.Tie as tie
+use Rattle.steps.proofs.moved.Statement.{statement}
+use Rattle.steps.proofs.moved.Tie as tie
 
 cast-rnd-product-quotient : tie.Need-cast-rnd-product-quotient
 cast-rnd-product-quotient c = widened-ok (c .args .motion) (c .fits .motion)
