@@ -1,5 +1,5 @@
-// Exports for the tests alone: the functions over lent entries, which `module` does not show. It is not shipped.
-// Each lends its entries on for good, so that nothing but the call and its answer is there to be proved.
+// Exports for the tests alone: the functions over lent entries, of the crates `star_list` and
+// `night_list`, which `module` does not show. It is not shipped.
 
 use night_list::night_list;
 use rules::Date;
@@ -16,7 +16,7 @@ ghost use Rattle.rules.specs.StarList.{listRead, entriesAfterRead, listWritten,
 ghost use Rattle.rules.specs.NightList.{nightList, entriesAfterNight};
 ghost use Rattle.inner_lists.specs.Lists.{innerListed, momentOf, siteOf};
 
-// The refusal's number and nought, or 0 and the answer's count: of records, of bytes, or of entries marked 0.
+// The refusal's number and nought, or 0 and the count: of records, of bytes, of entries marked 0.
 #[repr(C)]
 pub struct InnerListed {
     pub refused: i64,
@@ -26,7 +26,8 @@ pub struct InnerListed {
 // A list file read into entries.
 #[no_mangle]
 pub extern "C" fn inner_list_read(file: &[u8], entries: &mut [Entry]) -> InnerListed
-    ensures { λ r. ⌜ (r ≡ innerListed (listedAnswer (listRead (now (file .entry)) (now (entries .entry)))))
+    ensures { λ r. ⌜ (r ≡ innerListed (listedAnswer
+        (listRead (now (file .entry)) (now (entries .entry)))))
         × (now (entries .exit) ≡ entriesAfterRead (now (file .entry)) (now (entries .entry))) ⌝ }
 {
     listed_out(read_list(file, entries))
@@ -35,7 +36,8 @@ pub extern "C" fn inner_list_read(file: &[u8], entries: &mut [Entry]) -> InnerLi
 // The stars of entries written as a list file.
 #[no_mangle]
 pub extern "C" fn inner_list_write(entries: &[Entry], room: &mut [u8]) -> InnerListed
-    ensures { λ r. ⌜ (r ≡ innerListed (listedAnswer (listWritten (now (entries .entry)) (now (room .entry)))))
+    ensures { λ r. ⌜ (r ≡ innerListed (listedAnswer
+        (listWritten (now (entries .entry)) (now (room .entry)))))
         × (now (room .exit) ≡ roomAfterWrite (now (entries .entry)) (now (room .entry))) ⌝ }
 {
     listed_out(write_list(entries, room))
@@ -57,9 +59,11 @@ pub extern "C" fn inner_night_list(
     entries: &mut [Entry],
 ) -> InnerListed
     ensures { λ r. ⌜ (r ≡ innerListed (listedAnswer (nightList
-        (momentOf year month day hour minute second ms difference) (siteOf latitude longitude) (now (entries .entry)))))
+        (momentOf year month day hour minute second ms difference)
+        (siteOf latitude longitude) (now (entries .entry)))))
         × (now (entries .exit) ≡ entriesAfterNight
-        (momentOf year month day hour minute second ms difference) (siteOf latitude longitude) (now (entries .entry))) ⌝ }
+        (momentOf year month day hour minute second ms difference)
+        (siteOf latitude longitude) (now (entries .entry))) ⌝ }
 {
     let moment = moment_of(year, month, day, hour, minute, second, ms, difference);
     let site = site_of(latitude, longitude);

@@ -103,7 +103,8 @@ Write 𝓤 H A mem run = tripleOf 𝓤 H A write.signature (write.spec 𝓤 H A 
 
 module _ {M : Type 1} (𝓤 : URA M) (H : Heap 𝓤) (A : Atoms 𝓤) (W : Given 𝓤 H A) (mem : Memory → SProp 𝓤)
     (run : Routine → Fun 𝓤) (κ κ′ : Lft) (q q′ : Share) (b₁ o₁ : ℕ) (γ₁ : GName)
-    (xs : List Entry) (entries-room : Room R (length xs)) (b o : ℕ) (γ : GName) (bs : List ℕ) (room : Room u8 (length bs))
+    (xs : List Entry) (entries-room : Room R (length xs)) (b o : ℕ) (γ : GName) (bs : List ℕ) (room : Room u8
+    (length bs))
   where
     abbrev x : RefT (List Entry)
     x = record { ptr = (b₁, o₁); name = γ₁; now = xs }
@@ -149,7 +150,8 @@ module _ {M : Type 1} (𝓤 : URA M) (H : Heap 𝓤) (A : Atoms 𝓤) (W : Given
     exits t v ws e f long =
         qed W (tokens ∷ ‵ (finally u8 γ ws) ∷ ‵ (OR .own t (v ∷ [])) ∷ []) ∵
         suffices ! _ (ends-at 𝓤 H A inner.ended stayed (inner.clauses 𝓤 H A mem run) W
-        (((κ, (κ′, tt)), (q, (q′, tt)), tt, a, vals), tt) v t (tt, (ws, tt)) (tt, (long, tt))) $ says ! (e, f) $ frame ! $
+        (((κ, (κ′, tt)), (q, (q′, tt)), tt, a, vals), tt) v t (tt, (ws, tt)) (tt, (long, tt))) $ says ! (e, f) $
+        frame ! $
         nothing ! $ move ! (1 ∷ 0 ∷ []) $ fjoin ! $ nothing ! $ fjoin ! $ done !
 
     walk′ : (𝓣 : Tables 𝓤 H) (fm : FmC 𝓤 H (W .laws) (𝓣 .C)) → Triple 𝓤 (𝓣 .C #write-list) (Write 𝓤 H A mem run)
