@@ -3,12 +3,12 @@
 use rules::Entry;
 use rules::Listed;
 use star_file::answer_of;
-use star_file::reading::entry_at;
-use star_file::reading::read_plan;
-use star_file::writing::finish;
-use star_file::writing::put_entry;
-use star_file::writing::tally;
-use star_file::writing::write_plan;
+use star_file::entries::entry_at;
+use star_file::entries::read_plan;
+use star_records::put_entry;
+use star_writing::finish;
+use star_writing::tally;
+use star_writing::write_plan;
 ghost use mathlib.Core.Path.{_≡_};
 ghost use Rattle.rules.specs.StarList.{listRead, entriesAfterRead, starsOf};
 ghost use Rattle.rules.specs.StarList.{listWritten, roomAfterWrite};

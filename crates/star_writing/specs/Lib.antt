@@ -1,0 +1,2 @@
+-- What the contracts of inner functions cite beside the rules.
+pub mod Plans
