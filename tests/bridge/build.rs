@@ -3,7 +3,18 @@
 use std::path::PathBuf;
 use std::{env, fs};
 
-const SUBJECTS: [&str; 8] = ["whole", "circle", "turning", "reading", "dates", "earth", "place", "star_list"];
+const SUBJECTS: [&str; 10] = [
+    "whole",
+    "circle",
+    "turning",
+    "reading",
+    "dates",
+    "earth",
+    "place",
+    "star_list",
+    "entries",
+    "night_list",
+];
 
 fn main() {
     let bridge = env::var_os("CARGO_MANIFEST_DIR").expect("cargo runs this");

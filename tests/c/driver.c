@@ -17,6 +17,8 @@ struct call {
     size_t room_length;
 };
 
+_Static_assert(sizeof(struct inner_entry) == 64, "the bridge sends 64 bytes for an entry");
+
 static _Noreturn void fail(const char *what, const char *name) {
     fprintf(stderr, "driver: %s: %.64s\n", what, name);
     exit(EXIT_FAILURE);
@@ -54,7 +56,14 @@ static int32_t narrow(int64_t word) {
     FUNCTION(turbelicus_list_count, 0, struct turbelicus_counted, call->read, call->read_length)                       \
     FUNCTION(turbelicus_list_star, 1, struct turbelicus_starred, call->read, call->read_length, (size_t)given[0])      \
     FUNCTION(turbelicus_list_write, 0, struct turbelicus_written, call->read, call->read_length / sizeof(int64_t),     \
-             call->room, call->room_length)
+             call->room, call->room_length)                                                                            \
+    FUNCTION(inner_list_read, 0, struct inner_listed, call->read, call->read_length, call->room,                       \
+             call->room_length / sizeof(struct inner_entry))                                                           \
+    FUNCTION(inner_list_write, 0, struct inner_listed, call->read, call->read_length / sizeof(struct inner_entry),     \
+             call->room, call->room_length)                                                                            \
+    FUNCTION(inner_night_list, 10, struct inner_listed, narrow(given[0]), narrow(given[1]), narrow(given[2]),          \
+             narrow(given[3]), narrow(given[4]), narrow(given[5]), narrow(given[6]), narrow(given[7]), given[8],       \
+             given[9], call->room, call->room_length / sizeof(struct inner_entry))
 
 /* A weak name is null where no archive has the function, so that the driver can be built before all of them stand. */
 #define CALLER(function, count, type, ...)                                                                             \

@@ -1,5 +1,6 @@
-/* The functions that crate `inner` exports for tests alone. Nothing checks this against its source: they change together.
- * Where an answer has `refused`, it is the number of the refusal and the rest are noughts, or it is 0. */
+/* The functions that the crates `inner` and `inner_lists` export for tests alone. Nothing checks this against their
+ * source: they change together. Where an answer has `refused`, it is the number of the refusal and the rest are noughts,
+ * or it is 0. */
 #ifndef INNER_H
 #define INNER_H
 #include <stddef.h>
@@ -63,5 +64,35 @@ struct inner_arguments inner_arguments(int64_t tt);
 struct inner_nutation inner_nutation(int64_t tt);
 struct inner_angle inner_sun(int64_t tt);
 struct inner_angle inner_sidereal(int64_t ut);
+
+struct inner_star {
+    int64_t ra, declination;
+    int32_t ra_motion, declination_motion;
+};
+
+struct inner_place {
+    int64_t ra, declination, azimuth, altitude;
+};
+
+/* An entry of a list. */
+struct inner_entry {
+    struct inner_star star;
+    uint8_t mark;
+    struct inner_place place;
+};
+
+/* count is of the records read, of the bytes written, or of the entries marked 0. */
+struct inner_listed {
+    int64_t refused;
+    size_t count;
+};
+
+struct inner_listed inner_list_read(const uint8_t *file, size_t file_length, struct inner_entry *entries,
+                                    size_t entries_length);
+struct inner_listed inner_list_write(const struct inner_entry *entries, size_t entries_length, uint8_t *room,
+                                     size_t room_length);
+struct inner_listed inner_night_list(int32_t year, int32_t month, int32_t day, int32_t hour, int32_t minute,
+                                     int32_t second, int32_t ms, int32_t difference, int64_t latitude, int64_t longitude,
+                                     struct inner_entry *entries, size_t entries_length);
 
 #endif

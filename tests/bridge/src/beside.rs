@@ -8,17 +8,20 @@ use second::turning::{self, Direction};
 use second::units::Whole;
 
 use crate::compare::words;
+use crate::entries::{bytes_of_entries, entries_of};
 use crate::function::Call;
 
 pub fn place(given: [i64; 14]) -> [i64; 5] {
-    let [year, month, day, hour, minute, second, ms, difference, rest @ ..] = given.map(Whole::from);
-    let moment = Moment { date: Date { year, month, day }, hour, minute, second, ms, difference };
-    let [latitude, longitude, right_ascension, declination, motion_right_ascension, motion_declination] =
-        rest;
+    let [moment @ .., latitude, longitude, right_ascension, declination, motion_right_ascension, motion_declination] =
+        given.map(Whole::from);
     let site = Site { latitude, longitude };
     let star = Star { right_ascension, declination, motion_right_ascension, motion_declination };
-    let placed = place::place(moment, site, star);
+    let placed = place::place(moment_of(moment), site, star);
     words(placed.map(|place| vec![place.right_ascension, place.declination, place.azimuth, place.altitude]))
+}
+
+fn moment_of([year, month, day, hour, minute, second, ms, difference]: [Whole; 8]) -> Moment {
+    Moment { date: Date { year, month, day }, hour, minute, second, ms, difference }
 }
 
 pub fn turn(given: [i64; 5]) -> [i64; 4] {
@@ -50,4 +53,24 @@ pub fn list_write(call: &mut Call<0>) -> [i64; 2] {
     let word = |bytes: &[u8]| i64::from_le_bytes(bytes.try_into().expect("a whole word"));
     let numbers: Vec<Whole> = call.read.chunks_exact(8).map(|bytes| word(bytes).into()).collect();
     words(star_list::write_numbers(&numbers, &mut call.room).map(|length| vec![length as Whole]))
+}
+
+pub fn read_list(call: &mut Call<0>) -> [i64; 2] {
+    let mut entries = entries_of(&call.room);
+    let answer = star_list::read(&call.read, &mut entries);
+    call.room = bytes_of_entries(&entries);
+    words(answer.map(|count| vec![count as Whole]))
+}
+
+pub fn write_list(call: &mut Call<0>) -> [i64; 2] {
+    let entries = entries_of(&call.read);
+    words(star_list::write(&entries, &mut call.room).map(|length| vec![length as Whole]))
+}
+
+pub fn night_list(call: &mut Call<10>) -> [i64; 2] {
+    let [moment @ .., latitude, longitude] = call.given.map(Whole::from);
+    let mut entries = entries_of(&call.room);
+    let answer = star_list::night_list(moment_of(moment), Site { latitude, longitude }, &mut entries);
+    call.room = bytes_of_entries(&entries);
+    words(answer.map(|count| vec![count as Whole]))
 }

@@ -3,7 +3,8 @@
 use std::io::Write;
 
 use crate::chance::seed;
-use crate::function::{Call, Function};
+use crate::entries::entries_of;
+use crate::function::{Call, Function, Room};
 
 /// So many calls go to the module at once.
 const BATCH: usize = 4096;
@@ -45,9 +46,9 @@ pub fn compare_lent<const GIVEN: usize, const ANSWERED: usize>(
                     "{} differs, seed {}\n  given   {}\n  module  {}\n  second  {}",
                     function.name,
                     seed(),
-                    described(&function.given, &given.given, &given.read),
-                    described(&function.answered, &answer, &ours.room),
-                    described(&function.answered, &expected, &theirs.room),
+                    described(&function.given, &given.given, Room::Bytes, &given.read),
+                    described(&function.answered, &answer, function.room, &ours.room),
+                    described(&function.answered, &expected, function.room, &theirs.room),
                 );
             }
             compared += 1;
@@ -90,12 +91,14 @@ fn is_answer<const GIVEN: usize, const ANSWERED: usize>(
     }
 }
 
-/// Words by name, and bytes as text.
-fn described(names: &[&str], words: &[i64], bytes: &[u8]) -> String {
+/// Words by name, and bytes as text or as entries.
+fn described(names: &[&str], words: &[i64], room: Room, bytes: &[u8]) -> String {
     let named = |(name, word): (&&str, &i64)| format!("{name} {word}");
     let mut parts: Vec<String> = names.iter().zip(words).map(named).collect();
-    if !bytes.is_empty() {
-        parts.push(format!("bytes \"{}\"", bytes.escape_ascii()));
+    match room {
+        _ if bytes.is_empty() => {}
+        Room::Bytes => parts.push(format!("bytes \"{}\"", bytes.escape_ascii())),
+        Room::Entries => parts.extend(entries_of(bytes).iter().map(|entry| format!("\n    {entry:?}"))),
     }
     parts.join("  ")
 }

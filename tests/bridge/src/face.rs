@@ -2,8 +2,10 @@
 //! declarations against the Rattle source: `tests/c/driver.c` and the headers that it includes say the same in C.
 
 #[cfg(linked)]
+use crate::entries::ENTRY;
+#[cfg(linked)]
 use crate::function::Words;
-use crate::function::{exported, Function};
+use crate::function::{exported, Function, Room};
 
 #[cfg(exported = "whole")]
 exported! {
@@ -53,6 +55,7 @@ pub const TIMES_LINE: Function<0, 1> = Function {
     name: "inner_times_line",
     given: [],
     answered: ["length"],
+    room: Room::Bytes,
     #[cfg(linked)]
     linked: |call| {
         extern "C" {
@@ -98,6 +101,7 @@ pub const LIST_COUNT: Function<0, 2> = Function {
     name: "turbelicus_list_count",
     given: [],
     answered: ["refused", "count"],
+    room: Room::Bytes,
     #[cfg(linked)]
     linked: |call| {
         extern "C" {
@@ -115,6 +119,7 @@ pub const LIST_STAR: Function<1, 4> = Function {
     name: "turbelicus_list_star",
     given: ["index"],
     answered: ["refused", "ra", "declination", "motions"],
+    room: Room::Bytes,
     #[cfg(linked)]
     linked: |call| {
         extern "C" {
@@ -132,6 +137,7 @@ pub const LIST_WRITE: Function<0, 2> = Function {
     name: "turbelicus_list_write",
     given: [],
     answered: ["refused", "length"],
+    room: Room::Bytes,
     #[cfg(linked)]
     linked: |call| {
         extern "C" {
@@ -152,13 +158,123 @@ pub const LIST_WRITE: Function<0, 2> = Function {
     },
 };
 
-/// Lends the room between guards, which none may write.
+/// A list file read into the entries of the room.
+#[cfg(exported = "entries")]
+pub const READ_LIST: Function<0, 2> = Function {
+    name: "inner_list_read",
+    given: [],
+    answered: ["refused", "count"],
+    room: Room::Entries,
+    #[cfg(linked)]
+    linked: |call| {
+        extern "C" {
+            fn inner_list_read(
+                file: *const u8,
+                file_length: usize,
+                entries: *mut u8,
+                entries_length: usize,
+            ) -> Words<2>;
+        }
+        let file = &call.read;
+        lend(&mut call.room, |entries, length| {
+            // Safety: `tests/exports` says that the archive has it; each pointer goes with its own length.
+            unsafe { inner_list_read(file.as_ptr(), file.len(), entries, length / ENTRY) }.0
+        })
+    },
+};
+
+/// The list file of entries, which are read, written to the room.
+#[cfg(exported = "entries")]
+pub const WRITE_LIST: Function<0, 2> = Function {
+    name: "inner_list_write",
+    given: [],
+    answered: ["refused", "count"],
+    room: Room::Bytes,
+    #[cfg(linked)]
+    linked: |call| {
+        extern "C" {
+            fn inner_list_write(
+                entries: *const u8,
+                entries_length: usize,
+                room: *mut u8,
+                room_length: usize,
+            ) -> Words<2>;
+        }
+        let length_read = call.read.len() / ENTRY;
+        // the entries too stand between guards, where each begins at a whole word
+        lend(&mut call.read, |entries, _| {
+            lend(&mut call.room, |room, length| {
+                // Safety: `tests/exports` says that the archive has it; each pointer goes with its own length.
+                unsafe { inner_list_write(entries, length_read, room, length) }.0
+            })
+        })
+    },
+};
+
+/// The entries of the room worked at a UTC date and time, over a site.
+#[cfg(exported = "night_list")]
+pub const NIGHT_LIST: Function<10, 2> = Function {
+    name: "inner_night_list",
+    given: ["year", "month", "day", "hour", "minute", "second", "ms", "difference", "latitude", "longitude"],
+    answered: ["refused", "count"],
+    room: Room::Entries,
+    #[cfg(linked)]
+    linked: |call| {
+        extern "C" {
+            fn inner_night_list(
+                year: i32,
+                month: i32,
+                day: i32,
+                hour: i32,
+                minute: i32,
+                second: i32,
+                ms: i32,
+                difference: i32,
+                latitude: i64,
+                longitude: i64,
+                entries: *mut u8,
+                entries_length: usize,
+            ) -> Words<2>;
+        }
+        let [moment @ .., latitude, longitude] = call.given;
+        let [year, month, day, hour, minute, second, ms, difference] =
+            moment.map(|part: i64| i32::try_from(part).expect("a number of the C type"));
+        lend(&mut call.room, |entries, length| {
+            // Safety: `tests/exports` says that the archive has it; the pointer goes with its length.
+            unsafe {
+                inner_night_list(
+                    year,
+                    month,
+                    day,
+                    hour,
+                    minute,
+                    second,
+                    ms,
+                    difference,
+                    latitude,
+                    longitude,
+                    entries,
+                    length / ENTRY,
+                )
+            }
+            .0
+        })
+    },
+};
+
+/// Lends the room between guards, which none may write. It begins at a whole word, as C has what is more than bytes.
 #[cfg(linked)]
 fn lend<T>(room: &mut [u8], call: impl FnOnce(*mut u8, usize) -> T) -> T {
     const GUARD: [u8; 64] = [0xa5; 64];
-    let mut guarded = [&GUARD[..], room, &GUARD].concat();
-    let (before, rest) = guarded.split_at_mut(GUARD.len());
-    let (middle, after) = rest.split_at_mut(room.len());
+    let mut words = vec![0u64; (GUARD.len() + room.len() + GUARD.len()).div_ceil(8)];
+    // Safety: the words are there, and any bytes make a word.
+    let bytes = unsafe { std::slice::from_raw_parts_mut(words.as_mut_ptr().cast::<u8>(), 8 * words.len()) };
+    let (before, rest) = bytes.split_at_mut(GUARD.len());
+    let (middle, rest) = rest.split_at_mut(room.len());
+    let after = &mut rest[..GUARD.len()];
+    before.copy_from_slice(&GUARD);
+    middle.copy_from_slice(room);
+    after.copy_from_slice(&GUARD);
     let answer = call(middle.as_mut_ptr(), middle.len());
     assert!(before == GUARD && after == GUARD, "it writes past its room");
     room.copy_from_slice(middle);

@@ -33,17 +33,70 @@ pub fn count(chance: &mut Chance) -> i64 {
     chance.within(low, high)
 }
 
+/// The four numbers of a star that is accepted.
+pub fn accepted_star(chance: &mut Chance) -> [i64; 4] {
+    STAR_RANGES.map(|(low, high)| chance.within(low, high))
+}
+
+/// A star that is refused, of each kind: each of its numbers one past each end of its range, the others in the middle.
+pub fn refused_stars() -> Vec<[i64; 4]> {
+    let one_past = |part: usize| {
+        let (low, high) = STAR_RANGES[part];
+        [low - 1, high + 1].map(|end| {
+            let mut star = STAR_RANGES.map(|(low, high)| (low + high) / 2);
+            star[part] = end;
+            star
+        })
+    };
+    (0..STAR_RANGES.len()).flat_map(one_past).collect()
+}
+
 /// A file as the document lays it out, of any number of stars; few of them are refused.
 pub fn file(chance: &mut Chance, count: i64) -> Vec<u8> {
+    let stars: Vec<_> = (0..count).map(|_| star(chance, 1000)).collect();
+    file_of(&stars)
+}
+
+/// The same of stars that are all accepted.
+pub fn accepted_file(chance: &mut Chance, count: i64) -> Vec<u8> {
+    let stars: Vec<_> = (0..count).map(|_| accepted_star(chance)).collect();
+    file_of(&stars)
+}
+
+/// The file of stars, accepted or not, each by its four numbers.
+pub fn file_of(stars: &[[i64; 4]]) -> Vec<u8> {
     let mut file = b"SLT\x01\x00".to_vec();
-    file.extend((count as u16).to_le_bytes());
-    for _ in 0..count {
+    file.extend((stars.len() as u16).to_le_bytes());
+    for numbers in stars {
         let [right_ascension, declination, motion_right_ascension, motion_declination] =
-            star(chance, 1000).map(Whole::from);
+            numbers.map(Whole::from);
         let star = Star { right_ascension, declination, motion_right_ascension, motion_declination };
         file.extend(record_of(star));
     }
     file
+}
+
+/// The file cut off at every length, from none of its bytes to all.
+pub fn truncations(file: &[u8]) -> impl Iterator<Item = Vec<u8>> + '_ {
+    (0..=file.len()).map(|length| file[..length].to_vec())
+}
+
+/// The file with every one of its bytes made every other byte.
+pub fn other_bytes(file: &[u8]) -> impl Iterator<Item = Vec<u8>> + '_ {
+    (0..file.len()).flat_map(move |at| {
+        let others = (0..=255).filter(move |byte| *byte != file[at]);
+        others.map(move |byte| {
+            let mut changed = file.to_vec();
+            changed[at] = byte;
+            changed
+        })
+    })
+}
+
+/// The file one byte shorter, as it is, and one byte longer.
+pub fn lengths(file: &[u8]) -> [Vec<u8>; 3] {
+    let shorter = file[..file.len() - 1].to_vec();
+    [shorter, file.to_vec(), [file, &[0]].concat()]
 }
 
 /// One thing of a file changed.

@@ -4,6 +4,7 @@
 use std::env;
 
 use crate::driver;
+use crate::entries::clear_between_parts;
 
 /// What a function is given: numbers, bytes to read and bytes to write to.
 #[derive(Clone, Debug, PartialEq, Eq)]
@@ -21,11 +22,20 @@ impl<const GIVEN: usize> From<[i64; GIVEN]> for Call<GIVEN> {
     }
 }
 
+/// What the room of a call is to the function.
+#[derive(Clone, Copy, Debug, PartialEq, Eq)]
+pub enum Room {
+    Bytes,
+    /// Entries of a list, as `entries.rs` lays them out.
+    Entries,
+}
+
 /// An exported function, with the names of the words that it is given and answers.
 pub struct Function<const GIVEN: usize, const ANSWERED: usize> {
     pub name: &'static str,
     pub given: [&'static str; GIVEN],
     pub answered: [&'static str; ANSWERED],
+    pub room: Room,
     #[cfg(linked)]
     pub linked: fn(&mut Call<GIVEN>) -> [i64; ANSWERED],
 }
@@ -38,6 +48,14 @@ pub struct Words<const ANSWERED: usize>(pub [i64; ANSWERED]);
 impl<const GIVEN: usize, const ANSWERED: usize> Function<GIVEN, ANSWERED> {
     /// The answers to the calls, whose room is as the function left it.
     pub fn answers(&self, calls: &mut [Call<GIVEN>]) -> Vec<[i64; ANSWERED]> {
+        let answers = self.called(calls);
+        if self.room == Room::Entries {
+            calls.iter_mut().for_each(|call| clear_between_parts(&mut call.room));
+        }
+        answers
+    }
+
+    fn called(&self, calls: &mut [Call<GIVEN>]) -> Vec<[i64; ANSWERED]> {
         #[cfg(linked)]
         if !through_driver() {
             return calls.iter_mut().map(self.linked).collect();
@@ -64,6 +82,7 @@ macro_rules! exported {
             name: stringify!($name),
             given: [$(stringify!($part)),+],
             answered: [$(stringify!($word)),+],
+            room: Room::Bytes,
             #[cfg(linked)]
             linked: |call| {
                 extern "C" {

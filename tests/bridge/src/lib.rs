@@ -12,6 +12,7 @@ pub mod beside;
 pub mod chance;
 pub mod compare;
 mod driver;
+pub mod entries;
 pub mod face;
 pub mod files;
 pub mod function;

@@ -5,9 +5,12 @@ use bridge::beside::{list_count, list_star, list_write};
 use bridge::chance::Chance;
 use bridge::compare::compare_lent;
 use bridge::face::{LIST_COUNT, LIST_STAR, LIST_WRITE};
-use bridge::files::{bytes_of, count, damage, file, star};
+use bridge::files::{
+    accepted_file, accepted_star, bytes_of, count, damage, file, lengths, other_bytes, refused_stars, star,
+    truncations,
+};
 use bridge::function::Call;
-use second::star_list::file_length;
+use second::star_list::{file_length, HEAD};
 
 const RANDOM: usize = 20_000;
 
@@ -65,6 +68,83 @@ fn files_written() {
         Call { given: [], read: bytes_of(&numbers), room }
     });
     compare_lent(&LIST_WRITE, "random", calls, list_write);
+}
+
+/// Files of 0 to 65 records, whole and one byte shorter and longer; each star and what is past the last.
+#[test]
+fn files_of_every_count() {
+    let mut chance = Chance::new("files_of_every_count");
+    let files: Vec<_> = (0..=65).flat_map(|count| lengths(&accepted_file(&mut chance, count))).collect();
+    let what = "0 to 65 records, one byte less and more";
+    compare_lent(&LIST_COUNT, what, files.iter().cloned().map(of_file), list_count);
+    let stars = files.iter().flat_map(|file| (0..=66).map(|index| of_star(file.clone(), index)));
+    compare_lent(&LIST_STAR, what, stars, list_star);
+}
+
+/// Every truncation of 3 and of 64 records, and every other byte at every place of 3.
+#[test]
+fn every_damage() {
+    let mut chance = Chance::new("every_damage");
+    let (three, most) = (accepted_file(&mut chance, 3), accepted_file(&mut chance, 64));
+    let cut: Vec<_> = truncations(&three).chain(truncations(&most)).collect();
+    let changed: Vec<_> = other_bytes(&three).collect();
+    for (what, files) in [("every truncation of 3 and of 64 records", cut), ("every other byte", changed)] {
+        compare_lent(&LIST_COUNT, what, files.iter().cloned().map(of_file), list_count);
+        let stars = files.iter().flat_map(|file| (0..=3).map(|index| of_star(file.clone(), index)));
+        compare_lent(&LIST_STAR, what, stars, list_star);
+    }
+}
+
+/// Lists of 0 to 66 stars, with a number less and more, in rooms about the file's length; and one star that is refused, of
+/// each kind and at each place.
+#[test]
+fn lists_of_every_count() {
+    let mut chance = Chance::new("lists_of_every_count");
+    let mut lists: Vec<Vec<i64>> = Vec::new();
+    for count in 0..=66 {
+        let numbers: Vec<i64> = (0..=count).flat_map(|_| accepted_star(&mut chance)).collect();
+        let all: usize = 4 * count;
+        lists.extend((all.saturating_sub(1)..=all + 1).map(|length| numbers[..length].to_vec()));
+    }
+    let calls: Vec<_> = lists.iter().flat_map(|numbers| in_rooms(&mut chance, numbers)).collect();
+    compare_lent(
+        &LIST_WRITE,
+        "0 to 66 stars, a number less and more, rooms about the length",
+        calls,
+        list_write,
+    );
+
+    let mut lists: Vec<Vec<i64>> = Vec::new();
+    for count in [1, 3, 64, 65] {
+        for at in 0..count {
+            for refused in refused_stars() {
+                let mut stars: Vec<_> = (0..count).map(|_| accepted_star(&mut chance)).collect();
+                stars[at] = refused;
+                lists.push(stars.concat());
+            }
+        }
+    }
+    let calls: Vec<_> = lists.iter().flat_map(|numbers| in_rooms(&mut chance, numbers)).collect();
+    compare_lent(&LIST_WRITE, "one star refused, of each kind at each place", calls, list_write);
+}
+
+fn of_file(read: Vec<u8>) -> Call<0> {
+    Call { given: [], read, room: Vec::new() }
+}
+
+fn of_star(read: Vec<u8>, index: i64) -> Call<1> {
+    Call { given: [index], read, room: Vec::new() }
+}
+
+/// The numbers with rooms one byte too small, just enough and one byte too large for their whole stars, and with none.
+fn in_rooms(chance: &mut Chance, numbers: &[i64]) -> Vec<Call<0>> {
+    let length = file_length(numbers.len() / 4);
+    let rooms = [0, HEAD - 1, length - 1, length, length + 1];
+    let call = |room| {
+        let room = (0..room).map(|_| chance.any() as u8).collect();
+        Call { given: [], read: bytes_of(numbers), room }
+    };
+    rooms.into_iter().map(call).collect()
 }
 
 /// Document 01: "Read and written back, it is byte-equal", here by the module alone.
