@@ -31,7 +31,7 @@ pub fn pair_of_parts(x: i64) -> Pair
     ensures { λ r. ⌜ r ≡ pairOfParts x ⌝ }
 {
     let w = rows::square_parts(x);
-    let s = whole::rnd_quotient(x * rows::sine_factor(w), UNIT);
+    let s = whole::rnd_short_quotient(x * rows::sine_factor(w), UNIT);
     pair_to_length(rows::raw_cosine(w), s)
 }
 
@@ -40,7 +40,7 @@ fn pair_to_length(c: i64, s: i64) -> Pair
     requires { ⌜ PairGiven (record { cosine = c; sine = s }) ⌝ }
     ensures { λ r. ⌜ r ≡ pairToLength (record { cosine = c; sine = s }) ⌝ }
 {
-    let l = whole::whole_root(c * c + s * s);
+    let l = whole::length_root(c * c + s * s);
     Pair {
         cosine: part_to(l, c),
         sine: part_to(l, s),
@@ -52,5 +52,5 @@ fn part_to(l: i64, part: i64) -> i64
     requires { ⌜ PartGiven l part ⌝ }
     ensures { λ r. ⌜ r ≡ partTo (natAbs l) part ⌝ }
 {
-    whole::rnd_quotient(part * UNIT, l)
+    whole::rnd_short_quotient(part * UNIT, l)
 }

@@ -50,17 +50,17 @@ square-parts-requires c κs = rw (u-holds c .value) (omega (arith, u-holds c .si
 arc-factor-requires : tie.Need-arc-factor-requires
 arc-factor-requires c κs = rw (w-holds c .value) (w-range (c .before))
 
-mul-rnd-quotient : tie.Need-mul-rnd-quotient
-mul-rnd-quotient c = mul-ok (u-holds (c .before .before)) (p-holds c) tt
+mul-rnd-short-quotient : tie.Need-mul-rnd-short-quotient
+mul-rnd-short-quotient c = mul-ok (u-holds (c .before .before)) (p-holds c) tt
 
-rnd-quotient-requires : tie.Need-rnd-quotient-requires
-rnd-quotient-requires c κs = (ltZ-yes tt, lit≤ tt)
+rnd-short-quotient-requires : tie.Need-rnd-short-quotient-requires
+rnd-short-quotient-requires c κs = (rw (product-holds c .value) (omega (arith, product-holds c .size)), (ltZ-yes tt, lit≤ tt))
 
 returns : tie.Need-returns
 unfolding rule.arc
-returns c = search needs ∙ rw (product-holds (c .before) .value) at (c .rnd-quotient .ensures)
+returns c = search needs ∙ rw (product-holds (c .before) .value) at (c .rnd-short-quotient .ensures)
 
 pub arc-spec : {M : Type 1} → statement M
 arc-spec =
     tie.close
-    (tie.spec square-parts-requires arc-factor-requires mul-rnd-quotient rnd-quotient-requires returns)
+    (tie.spec square-parts-requires arc-factor-requires mul-rnd-short-quotient rnd-short-quotient-requires returns)

@@ -37,22 +37,24 @@ first-holds c =
     got (rw (k-holds (c .before) .value) at (c .rnd-quotient .ensures))
     (rnd-le (pos unit) (natAbs k) (c .before .pre .k-pos)) tt
 
-second-holds : (c : tie.After-rnd-quotient2)
-    → Holds (bits (c .rnd-quotient2 .result)) (rnd (c .before .before .args .w *ℤ c .before .before .args .p) unit) unit
+second-holds : (c : tie.After-rnd-short-quotient)
+    → Holds (bits (c .rnd-short-quotient .result)) (rnd (c .before .before .args .w *ℤ c .before .before .args .p) unit) unit
 second-holds c =
     let b = c .before .before in
-    got (rw (product-holds b .value) at (c .rnd-quotient2 .ensures))
+    got (rw (product-holds b .value) at (c .rnd-short-quotient .ensures))
     (rnd-under (b .args .w *ℤ b .args .p) unit unit (lit< tt) (product-holds b .size)) tt
 
 rnd-quotient-requires : tie.Need-rnd-quotient-requires
 rnd-quotient-requires c κs =
     rw (k-holds c .value) (above (c .args .k) (c .pre .k-pos) (c .pre .k-range), omega (arith, k-holds c .size))
 
-mul-rnd-quotient : tie.Need-mul-rnd-quotient
-mul-rnd-quotient c = mul-ok (w-holds (c .before)) (p-holds (c .before)) tt
+mul-rnd-short-quotient : tie.Need-mul-rnd-short-quotient
+mul-rnd-short-quotient c = mul-ok (w-holds (c .before)) (p-holds (c .before)) tt
 
-rnd-quotient-requires-2 : tie.Need-rnd-quotient-requires-2
-rnd-quotient-requires-2 c κs = (ltZ-yes tt, lit≤ tt)
+rnd-short-quotient-requires : tie.Need-rnd-short-quotient-requires
+rnd-short-quotient-requires c κs =
+    let b = c .before in
+    (rw (product-holds b .value) (omega (arith, product-holds b .size)), (ltZ-yes tt, lit≤ tt))
 
 sub-result : tie.Need-sub-result
 sub-result c = sub-ok (first-holds (c .before)) (second-holds c) tt
@@ -64,4 +66,4 @@ returns c = sub (first-holds (c .before)) (second-holds c) tt .value
 pub arc-stage-spec : {M : Type 1} → statement M
 arc-stage-spec =
     tie.close
-    (tie.spec rnd-quotient-requires mul-rnd-quotient rnd-quotient-requires-2 sub-result returns)
+    (tie.spec rnd-quotient-requires mul-rnd-short-quotient rnd-short-quotient-requires sub-result returns)

@@ -27,19 +27,21 @@ above : (l : ℤ) (b : ℕ) → 0 < natAbs l → UpTo l b → pos 0 <ℤ l
 above (pos n) b h r = record { lt = lt→ltb 0 n h }
 above (negsuc n) b h r = absurd (omega (arith, r .low))
 
-mul-rnd-quotient : tie.Need-mul-rnd-quotient
-mul-rnd-quotient c = mul-ok (part-holds c) (lit unit tt) tt
+mul-rnd-short-quotient : tie.Need-mul-rnd-short-quotient
+mul-rnd-short-quotient c = mul-ok (part-holds c) (lit unit tt) tt
 
-rnd-quotient-requires : tie.Need-rnd-quotient-requires
-rnd-quotient-requires c κs =
-    rw (l-holds c .value)
-    (above (c .args .l) (2 * unit) (c .pre .length-pos) (c .pre .length-range), omega (arith, l-holds c .size))
+rnd-short-quotient-requires : tie.Need-rnd-short-quotient-requires
+rnd-short-quotient-requires c κs =
+    rw (product-holds c .value, l-holds c .value) (
+      omega (arith, product-holds c .size),
+      (above (c .args .l) (2 * unit) (c .pre .length-pos) (c .pre .length-range), omega (arith, l-holds c .size)),
+    )
 
 returns : tie.Need-returns
 unfolding partTo
 returns c =
     search needs
-    ∙ rw (product-holds (c .before) .value, l-holds (c .before) .value) at (c .rnd-quotient .ensures)
+    ∙ rw (product-holds (c .before) .value, l-holds (c .before) .value) at (c .rnd-short-quotient .ensures)
 
 pub part-to-spec : {M : Type 1} → statement M
-part-to-spec = tie.close (tie.spec mul-rnd-quotient rnd-quotient-requires returns)
+part-to-spec = tie.close (tie.spec mul-rnd-short-quotient rnd-short-quotient-requires returns)
