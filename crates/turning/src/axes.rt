@@ -29,8 +29,8 @@ fn turn_3(v: Direction, p: Pair) -> Direction
     ensures { λ r. ⌜ r ≡ turn3 p v ⌝ }
 {
     Direction {
-        x: whole::rnd_quotient(p.cosine * v.x - p.sine * v.y, UNIT),
-        y: whole::rnd_quotient(p.sine * v.x + p.cosine * v.y, UNIT),
+        x: whole::rnd_short_quotient(p.cosine * v.x - p.sine * v.y, UNIT),
+        y: whole::rnd_short_quotient(p.sine * v.x + p.cosine * v.y, UNIT),
         z: v.z,
     }
 }

@@ -80,36 +80,40 @@ start6 k = start4 (k .before .before .before .before .before)
 abbrev start8 : tie.After-struct-told8 → tie.Start
 start8 k = start6 (k .before .before .before .before)
 
-mul-rnd-quotient : tie.Need-mul-rnd-quotient
-mul-rnd-quotient k = let b = k .before .before .before .before in mul-ok (c-holds b) (x-holds b) tt
+mul-rnd-short-quotient : tie.Need-mul-rnd-short-quotient
+mul-rnd-short-quotient k = let b = k .before .before .before .before in mul-ok (c-holds b) (x-holds b) tt
 
-mul-rnd-quotient-2 : tie.Need-mul-rnd-quotient-2
-mul-rnd-quotient-2 k = mul-ok (s-holds (start4 k)) (y-holds (start4 k)) tt
+mul-rnd-short-quotient-2 : tie.Need-mul-rnd-short-quotient-2
+mul-rnd-short-quotient-2 k = mul-ok (s-holds (start4 k)) (y-holds (start4 k)) tt
 
-sub-rnd-quotient : tie.Need-sub-rnd-quotient
-sub-rnd-quotient k = sub-ok (cx-holds (start4 k)) (sy-holds (start4 k)) tt
+sub-rnd-short-quotient : tie.Need-sub-rnd-short-quotient
+sub-rnd-short-quotient k = sub-ok (cx-holds (start4 k)) (sy-holds (start4 k)) tt
 
-rnd-quotient-requires : tie.Need-rnd-quotient-requires
-rnd-quotient-requires k κs = (ltZ-yes tt, lit≤ tt)
+rnd-short-quotient-requires : tie.Need-rnd-short-quotient-requires
+rnd-short-quotient-requires k κs =
+    let sum = sub (cx-holds (start4 k)) (sy-holds (start4 k)) tt in
+    (rw (sum .value) (omega (arith, sum .size)), (ltZ-yes tt, lit≤ tt))
 
-mul-rnd-quotient-3 : tie.Need-mul-rnd-quotient-3
-mul-rnd-quotient-3 k = mul-ok (s-holds (start6 k)) (x-holds (start6 k)) tt
+mul-rnd-short-quotient-3 : tie.Need-mul-rnd-short-quotient-3
+mul-rnd-short-quotient-3 k = mul-ok (s-holds (start6 k)) (x-holds (start6 k)) tt
 
-mul-rnd-quotient-4 : tie.Need-mul-rnd-quotient-4
-mul-rnd-quotient-4 k = mul-ok (c-holds (start8 k)) (y-holds (start8 k)) tt
+mul-rnd-short-quotient-4 : tie.Need-mul-rnd-short-quotient-4
+mul-rnd-short-quotient-4 k = mul-ok (c-holds (start8 k)) (y-holds (start8 k)) tt
 
-add-rnd-quotient : tie.Need-add-rnd-quotient
-add-rnd-quotient k = add-ok (sx-holds (start8 k)) (cy-holds (start8 k)) tt
+add-rnd-short-quotient : tie.Need-add-rnd-short-quotient
+add-rnd-short-quotient k = add-ok (sx-holds (start8 k)) (cy-holds (start8 k)) tt
 
-rnd-quotient-requires-2 : tie.Need-rnd-quotient-requires-2
-rnd-quotient-requires-2 k κs = (ltZ-yes tt, lit≤ tt)
+rnd-short-quotient-requires-2 : tie.Need-rnd-short-quotient-requires-2
+rnd-short-quotient-requires-2 k κs =
+    let sum = add (sx-holds (start8 k)) (cy-holds (start8 k)) tt in
+    (rw (sum .value) (omega (arith, sum .size)), (ltZ-yes tt, lit≤ tt))
 
 returns : tie.Need-returns
 unfolding turn3
 returns k =
     let b = start8 (k .before .before) in
-    let first = k .before .before .before .before .before .before .before .before .before .before .rnd-quotient in
-    let second = k .before .rnd-quotient2 in
+    let first = k .before .before .before .before .before .before .before .before .before .before .rnd-short-quotient in
+    let second = k .before .rnd-short-quotient2 in
     let x-is = held64 (first .result) (first .ok)
     ∙ rw (sub (cx-holds b) (sy-holds b) tt .value) at (first .ensures) in
     let y-is = held64 (second .result) (second .ok)
@@ -120,12 +124,12 @@ pub turn-3-spec : {M : Type 1} → statement M
 turn-3-spec =
     tie.close
     (tie.spec
-    mul-rnd-quotient
-    mul-rnd-quotient-2
-    sub-rnd-quotient
-    rnd-quotient-requires
-    mul-rnd-quotient-3
-    mul-rnd-quotient-4
-    add-rnd-quotient
-    rnd-quotient-requires-2
+    mul-rnd-short-quotient
+    mul-rnd-short-quotient-2
+    sub-rnd-short-quotient
+    rnd-short-quotient-requires
+    mul-rnd-short-quotient-3
+    mul-rnd-short-quotient-4
+    add-rnd-short-quotient
+    rnd-short-quotient-requires-2
     returns)
