@@ -1,0 +1,119 @@
+// Exports for the tests alone: the functions over lent entries, of the crates `star_list` and
+// `night_list`, which `module` does not show. It is not shipped.
+
+use night_list::night_list;
+use rules::Date;
+use rules::Entry;
+use rules::Listed;
+use rules::Moment;
+use rules::Site;
+use rules::Time;
+use star_list::read_list;
+use star_list::write_list;
+ghost use mathlib.Core.Path.{_≡_};
+ghost use Rattle.rules.specs.Refusals.{listedAnswer};
+ghost use Rattle.rules.specs.StarList.{listRead, entriesAfterRead, listWritten, roomAfterWrite};
+ghost use Rattle.rules.specs.NightList.{nightList, entriesAfterNight};
+ghost use Rattle.inner_lists.specs.Lists.{innerListed, momentOf, siteOf};
+
+// The refusal's number and nought, or 0 and the count: of records, of bytes, of entries marked 0.
+#[repr(C)]
+pub struct InnerListed {
+    pub refused: i64,
+    pub count: usize,
+}
+
+// A list file read into entries.
+#[no_mangle]
+pub extern "C" fn inner_list_read(file: &[u8], entries: &mut [Entry]) -> InnerListed
+    ensures { λ r. ⌜ (r ≡ innerListed (listedAnswer
+        (listRead (now (file .entry)) (now (entries .entry)))))
+        × (now (entries .exit) ≡ entriesAfterRead (now (file .entry)) (now (entries .entry))) ⌝ }
+{
+    listed_out(read_list(file, entries))
+}
+
+// The stars of entries written as a list file.
+#[no_mangle]
+pub extern "C" fn inner_list_write(entries: &[Entry], room: &mut [u8]) -> InnerListed
+    ensures { λ r. ⌜ (r ≡ innerListed (listedAnswer
+        (listWritten (now (entries .entry)) (now (room .entry)))))
+        × (now (room .exit) ≡ roomAfterWrite (now (entries .entry)) (now (room .entry))) ⌝ }
+{
+    listed_out(write_list(entries, room))
+}
+
+// A night list, worked where it stands.
+#[no_mangle]
+pub extern "C" fn inner_night_list(
+    year: i32,
+    month: i32,
+    day: i32,
+    hour: i32,
+    minute: i32,
+    second: i32,
+    ms: i32,
+    difference: i32,
+    latitude: i64,
+    longitude: i64,
+    entries: &mut [Entry],
+) -> InnerListed
+    ensures { λ r. ⌜ (r ≡ innerListed (listedAnswer (nightList
+        (momentOf year month day hour minute second ms difference)
+        (siteOf latitude longitude) (now (entries .entry)))))
+        × (now (entries .exit) ≡ entriesAfterNight
+        (momentOf year month day hour minute second ms difference)
+        (siteOf latitude longitude) (now (entries .entry))) ⌝ }
+{
+    let moment = moment_of(year, month, day, hour, minute, second, ms, difference);
+    let site = site_of(latitude, longitude);
+    listed_out(night_list(moment, site, entries))
+}
+
+fn moment_of(
+    year: i32,
+    month: i32,
+    day: i32,
+    hour: i32,
+    minute: i32,
+    second: i32,
+    ms: i32,
+    difference: i32,
+) -> Moment
+    ensures { λ r. ⌜ r ≡ momentOf year month day hour minute second ms difference ⌝ }
+{
+    Moment {
+        date: Date { year, month, day },
+        time: Time {
+            hour,
+            minute,
+            second,
+            ms,
+        },
+        difference,
+    }
+}
+
+fn site_of(latitude: i64, longitude: i64) -> Site
+    ensures { λ r. ⌜ r ≡ siteOf latitude longitude ⌝ }
+{
+    Site {
+        latitude,
+        longitude,
+    }
+}
+
+fn listed_out(a: Listed) -> InnerListed
+    ensures { λ r. ⌜ r ≡ innerListed (listedAnswer a) ⌝ }
+{
+    match a {
+        Listed::Count(count) => InnerListed {
+            refused: 0,
+            count: count,
+        },
+        Listed::Refused(r) => InnerListed {
+            refused: refusals::number(r),
+            count: 0,
+        },
+    }
+}
