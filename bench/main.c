@@ -20,6 +20,7 @@ enum { NIGHTS = 64, PLACES = NIGHTS * STARS };
 static struct moment moments[NIGHTS];
 static struct site sites[NIGHTS];
 static struct star stars[STARS];
+static struct entry entries[STARS];
 
 /* Numbers that look drawn by lot and are the same in every run (Knuth's MMIX). */
 static uint64_t drawn = 1;
@@ -38,6 +39,7 @@ static void draw_all(void) {
     for (int k = 0; k < STARS; k++) {
         stars[k] = (struct star){draw(0, CIRCLE - 1), draw(-CIRCLE / 4, CIRCLE / 4), draw(-1000000, 1000000),
                                  draw(-1000000, 1000000)};
+        entries[k].star = stars[k];
     }
 }
 
@@ -58,6 +60,15 @@ static void erfa_places(void) {
     }
 }
 
+/* The entries keep their stars from night to night. */
+static void module_nights(void) {
+    for (int k = 0; k < NIGHTS; k++) {
+        struct inner_listed listed = module_night(&moments[k], &sites[k], entries);
+        used(&listed);
+        used(entries);
+    }
+}
+
 static void erfa_nights(void) {
     struct spot spots[STARS];
     for (int k = 0; k < NIGHTS; k++) {
@@ -70,7 +81,10 @@ static void erfa_nights(void) {
 static const struct {
     const char *name;
     void (*run)(void);
-} works[] = {{"module_places", module_places}, {"erfa_places", erfa_places}, {"erfa_nights", erfa_nights}};
+} works[] = {{"module_places", module_places},
+             {"erfa_places", erfa_places},
+             {"module_nights", module_nights},
+             {"erfa_nights", erfa_nights}};
 
 enum { WORKS = sizeof works / sizeof *works };
 
@@ -105,15 +119,21 @@ static double apart_in(int64_t ra, int64_t declination, int64_t azimuth, int64_t
     return fmax(apart(ra, declination, spot->ra, spot->declination), apart(azimuth, altitude, spot->azimuth, spot->altitude));
 }
 
-/* The largest difference of the two chains, or a number that no tolerance allows where a place is refused. */
+/* The largest difference of the two chains, place by place and night by night; no tolerance allows a refused one. */
 static void agree(void) {
     double largest = 0;
-    for (int k = 0; k < PLACES; k++) {
-        struct turbelicus_placed ours = module_place(&moments[k / STARS], &sites[k / STARS], &stars[k % STARS]);
-        struct spot theirs = erfa_place(&moments[k / STARS], &sites[k / STARS], &stars[k % STARS]);
-        double one = apart_in(ours.ra, ours.declination, ours.azimuth, ours.altitude, &theirs);
-        if (ours.refused != 0) one = INFINITY;
-        largest = fmax(largest, one);
+    struct spot spots[STARS];
+    for (int k = 0; k < NIGHTS; k++) {
+        struct inner_listed listed = module_night(&moments[k], &sites[k], entries);
+        erfa_night(&moments[k], &sites[k], stars, spots);
+        for (int j = 0; j < STARS; j++) {
+            struct turbelicus_placed placed = module_place(&moments[k], &sites[k], &stars[j]);
+            struct spot spot = erfa_place(&moments[k], &sites[k], &stars[j]);
+            struct entry *entry = &entries[j];
+            largest = fmax(largest, apart_in(placed.ra, placed.declination, placed.azimuth, placed.altitude, &spot));
+            largest = fmax(largest, apart_in(entry->ra, entry->declination, entry->azimuth, entry->altitude, &spots[j]));
+            if (placed.refused != 0 || listed.refused != 0 || listed.count != STARS) largest = INFINITY;
+        }
     }
     printf("%.6f\n", largest);
 }
