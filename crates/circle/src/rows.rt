@@ -14,7 +14,7 @@ pub fn square_parts(x: i64) -> i64
     requires { ⌜ natAbs x ≤ unit ⌝ }
     ensures { λ r. ⌜ r ≡ rule.squareParts x ⌝ }
 {
-    whole::rnd_short_quotient(x * x, UNIT)
+    whole::rnd_by_unit(x * x)
 }
 
 // p = 2^30 - Rnd(w p / (2^30 k)).

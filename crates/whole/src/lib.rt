@@ -4,7 +4,7 @@ ghost use mathlib.Core.Path.{_≡_};
 ghost use Prim.Native.Nat.{ℕ, _≤_, _^_};
 ghost use lib.IntN.{ℤ, pos, natAbs, _*ℤ_};
 ghost use lib.Signed.{_<ℤ_, _≤ℤ_};
-ghost use Rattle.rules.specs.Units.{circle, between};
+ghost use Rattle.rules.specs.Units.{circle, unit, between};
 ghost use Rattle.rules.specs.Rounding.{rnd, modulo};
 ghost use Rattle.rules.specs.Length.{root};
 ghost use Rattle.laws.specs.Product.{ProductFits};
@@ -27,6 +27,9 @@ const ROOTS: i64 = 3037000500;
 const NEAR: i64 = 1073741856;
 
 const NEAR_SQUARE: i64 = 1152921573326324736;
+
+// Half of 2^30.
+const HALF_UNIT: i64 = 536870912;
 
 // 2^30 - 64 and its square, 2^38 - 1 above that, and 2^31: near 2^60 a square goes up by nearly as much to the next.
 const LOW: i64 = 1073741760;
@@ -72,6 +75,20 @@ pub fn rnd_short_quotient(a: i64, b: i64) -> i64
     } else {
         (a + half) / b
     }
+}
+
+// Rnd(a / 2^30) of a dividend that leaves room in the word: no division, and no case on the sign.
+//
+// Given: a, to 2^62 in size.
+// Returned: Rnd(a / 2^30), no larger in size than a.
+// Rule: 01, "Numbers, angles, instants".
+//
+// A shift goes down: half of 2^30 is added, and one less below nought, where a half goes down too.
+pub fn rnd_by_unit(a: i64) -> i64
+    requires { ⌜ natAbs a ≤ 2 ^ 62 ⌝ }
+    ensures { λ r. ⌜ r ≡ rnd a unit ⌝ }
+{
+    (a + HALF_UNIT + (a >> 63)) >> 30
 }
 
 // Rnd(a * b / d), though a * b may pass the word.

@@ -1,11 +1,9 @@
 -- `whole::length_root` meets its contract: both ways give the root.
-use Prim.Native.Nat.{ℕ, _^_}
 use mathlib.Core.Path.{_≡_, refl, sym, _∙_}
 use mathlib.Core.Bool.{true}
 use native.Mathlib.Omega.{arith}
 use borrow.Author.Needs.{needs}
-use lib.IntN.{ℤ, pos, negsuc, natAbs}
-use lib.Signed.{_≤ℤ_, pos-natAbs, yes-nonNeg}
+use lib.IntN.{ℤ, pos, negsuc}
 use mir.Facts.{toZ-ofZ}
 use Rattle.rules.specs.Units.{between}
 use Rattle.laws.specs.Units.{between-parts}

@@ -1,8 +1,7 @@
 -- `whole::rnd_short_quotient` meets its contract: rounding is odd, so the law of sizes gives both signs.
-use Prim.Native.Nat.{ℕ, suc, _+_, _*_, _/_, _^_, _<_}
-use mathlib.Core.Path.{_≡_, refl, sym, ap, _∙_}
+use Prim.Native.Nat.{suc, _+_, _/_, _^_}
+use mathlib.Core.Path.{_≡_, ap, _∙_}
 use mathlib.Core.Bool.{true, false}
-use native.Mathlib.Nat.{lt-div-mul-add, div-mul-le-self}
 use native.Mathlib.Omega.{arith}
 use lib.Dec.{ltb→lt}
 use lib.IntN.{ℤ, pos, negsuc, negℤ, natAbs, _+ℤ_, _-ℤ_}
@@ -10,19 +9,14 @@ use lib.Signed.{quotZ, ltZ, ltZ-yes, _<ℤ_}
 use Rattle.integers.specs.Difference.{ltZ-true, ltZ-false}
 use Rattle.integers.specs.Quotient.{quot-neg}
 use Rattle.integers.specs.Sign.{neg-add-neg}
-use Rattle.words.specs.Holds.{Holds, bits, _+ʷ_, _-ʷ_, _/ʷ_, arg, lit, add, add-ok, sub, sub-ok, div, div-ok, div-lit}
-use Rattle.rules.specs.Rounding.{rnd, rndSize}
-use Rattle.laws.specs.Rounding.{rndSize-is, rnd-pos, rnd-neg}
+use Rattle.words.specs.Holds.{Holds, bits, _/ʷ_, arg, lit, add, add-ok, sub, sub-ok, div, div-ok, div-lit}
+use Rattle.rules.specs.Rounding.{rnd}
+use Rattle.laws.specs.Rounding.{rnd-pos}
+use Rattle.whole.proofs.Half.{rndSize-by-half}
 use Rattle.whole.proofs.rnd_short_quotient.Statement.{statement}
 use Rattle.whole.proofs.rnd_short_quotient.Tie as tie
 
 -- ---- half of the divisor more, rounded down
-
-rndSize-by-half : (n d : ℕ) → 0 < d → (n + d / 2) / d ≡ rndSize n d
-rndSize-by-half n d h =
-    sym (rndSize-is n d ((n + d / 2) / d)
-    (omega (arith, div-mul-le-self (n + d / 2) d))
-    (omega (arith, lt-div-mul-add {a = n + d / 2} {b = d} h)))
 
 rnd-of-nonnegative : (a b : ℤ) → pos 0 <ℤ b → ltZ a (pos 0) ≡ false
     → quotZ (a +ℤ quotZ b (pos 2)) b ≡ rnd a (natAbs b)
