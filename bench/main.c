@@ -5,7 +5,6 @@
  *   bench count WORK    does the work once, for a tool that counts instructions, and prints how many places it has */
 #include <math.h>
 #include <stdio.h>
-#include <stdlib.h>
 #include <string.h>
 #include <time.h>
 
@@ -30,15 +29,31 @@ static int64_t draw(int64_t low, int64_t high) {
     return low + (int64_t)((drawn >> 11) % (uint64_t)(high - low + 1));
 }
 
+/* One statement for each, so that they are drawn in the same order by every compiler. */
+static void draw_night(struct moment *moment, struct site *site) {
+    moment->year = draw(1972, 2099);
+    moment->month = draw(1, 12);
+    moment->day = draw(1, 28);
+    moment->hour = draw(0, 23);
+    moment->minute = draw(0, 59);
+    moment->second = draw(0, 59);
+    moment->ms = draw(0, 999);
+    moment->difference = draw(-900, 900);
+    site->latitude = draw(-CIRCLE / 4, CIRCLE / 4);
+    site->longitude = draw(-CIRCLE / 2, CIRCLE / 2);
+}
+
+static void draw_star(struct star *star) {
+    star->ra = draw(0, CIRCLE - 1);
+    star->declination = draw(-CIRCLE / 4, CIRCLE / 4);
+    star->ra_motion = draw(-1000000, 1000000);
+    star->declination_motion = draw(-1000000, 1000000);
+}
+
 static void draw_all(void) {
-    for (int k = 0; k < NIGHTS; k++) {
-        moments[k] = (struct moment){draw(1972, 2099), draw(1, 12), draw(1, 28),  draw(0, 23),
-                                     draw(0, 59),      draw(0, 59), draw(0, 999), draw(-900, 900)};
-        sites[k] = (struct site){draw(-CIRCLE / 4, CIRCLE / 4), draw(-CIRCLE / 2, CIRCLE / 2)};
-    }
+    for (int k = 0; k < NIGHTS; k++) draw_night(&moments[k], &sites[k]);
     for (int k = 0; k < STARS; k++) {
-        stars[k] = (struct star){draw(0, CIRCLE - 1), draw(-CIRCLE / 4, CIRCLE / 4), draw(-1000000, 1000000),
-                                 draw(-1000000, 1000000)};
+        draw_star(&stars[k]);
         entries[k].star = stars[k];
     }
 }
@@ -115,8 +130,11 @@ static double apart(int64_t around, int64_t height, double around_radians, doubl
     return hypot(across, height * 1e-6 - height_radians * ARCSECONDS_OF_RADIAN);
 }
 
+/* The larger of the two distances of a place; what is no number is no agreement. */
 static double apart_in(int64_t ra, int64_t declination, int64_t azimuth, int64_t altitude, const struct spot *spot) {
-    return fmax(apart(ra, declination, spot->ra, spot->declination), apart(azimuth, altitude, spot->azimuth, spot->altitude));
+    double sky = apart(ra, declination, spot->ra, spot->declination);
+    double horizon = apart(azimuth, altitude, spot->azimuth, spot->altitude);
+    return isnan(sky) || isnan(horizon) ? INFINITY : fmax(sky, horizon);
 }
 
 /* The largest difference of the two chains, place by place and night by night; no tolerance allows a refused one. */
@@ -130,8 +148,9 @@ static void agree(void) {
             struct turbelicus_placed placed = module_place(&moments[k], &sites[k], &stars[j]);
             struct spot spot = erfa_place(&moments[k], &sites[k], &stars[j]);
             struct entry *entry = &entries[j];
-            largest = fmax(largest, apart_in(placed.ra, placed.declination, placed.azimuth, placed.altitude, &spot));
-            largest = fmax(largest, apart_in(entry->ra, entry->declination, entry->azimuth, entry->altitude, &spots[j]));
+            double one = apart_in(placed.ra, placed.declination, placed.azimuth, placed.altitude, &spot);
+            double listed_one = apart_in(entry->ra, entry->declination, entry->azimuth, entry->altitude, &spots[j]);
+            largest = fmax(largest, fmax(one, listed_one));
             if (placed.refused != 0 || listed.refused != 0 || listed.count != STARS) largest = INFINITY;
         }
     }

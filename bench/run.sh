@@ -1,7 +1,7 @@
 #!/usr/bin/env bash
 # `make bench`: the module beside ERFA's chain in double floats, on the same dates, sites and stars in the same run.
 # Instructions are counted by callgrind, inside the measured function alone; places a second are the best of many turns.
-# It prints what it found and writes docs/BENCH.md. It fails where the two chains' answers are apart, not at a missed target.
+# It prints what it found and writes docs/BENCH.md. It fails where the answers are apart, and not at a missed target.
 set -euo pipefail
 cd "$(dirname "${BASH_SOURCE[0]}")/.."
 
@@ -35,7 +35,7 @@ speed() {
     awk -v work="$1" '$1 == work { print $2 }' $out/speed
 }
 
-# row WORDS MODULE ERFA: a row of the page, the ratio being that of the larger work to the smaller
+# row WORDS MODULE ERFA: a row of the page; the ratio is the module's work over ERFA's, in time as in instructions
 row() {
     awk -v words="$1" -v module="$2" -v erfa="$3" 'BEGIN {
         printf "| %s | %d | %d | %.2f |", words, module, erfa, (words ~ /a second/) ? erfa / module : module / erfa }'
@@ -47,11 +47,19 @@ target() {
         printf " at most %.1f: %s |\n", most, (module <= most * erfa) ? "met" : "MISSED" }'
 }
 
-processor() {
-    sed -n 's/^model name[^:]*: *//p' /proc/cpuinfo 2>/dev/null | head -n 1
+machine() {
+    local name
+    name=$(sed -n 's/^model name[^:]*: *//p' /proc/cpuinfo 2>/dev/null | head -n 1)
+    echo "$(uname -m)${name:+, $name}"
 }
 
-# rows WHAT WORK OURS THEIRS MOST: instructions beside their target, and places a second, of the module's and ERFA's works
+# shares WORK: where its instructions go, by what callgrind knows as functions; what is inlined counts for its caller
+shares() {
+    callgrind_annotate "$out/$1.callgrind" |
+        sed -n 's/^ *[0-9,]* ( *\([0-9.]*\)%)  .*???:\([^ ]*\) .*/| `\2` | \1 % |/p'
+}
+
+# rows WHAT WORK OURS THEIRS MOST: instructions beside their target, and places a second
 rows() {
     local ours theirs
     ours=$(instructions "module_$2" "$3")
@@ -66,28 +74,43 @@ write_page() {
     cat <<END
 # How fast it is
 
-\`make bench\` writes this page: the proved code, compiled for the machine at hand by \`tools/native-object\`, beside ERFA in
-double floats, in one run, on the same 4,096 places: 64 dates and sites, 64 stars, all drawn by lot. The answers of the
-two are at most $1″ apart (allowed: $tolerance″).
+\`make bench\` writes this page: the proved code, compiled for the machine at hand by \`tools/native-object\`, beside
+ERFA in double floats, in one run, on the same 4,096 places: 64 dates and sites, 64 stars, all drawn by lot. The answers
+of the two are at most $1″ apart (allowed: $tolerance″).
 
-- One place is \`turbelicus_place\`; a star of a night is a 64th of a night list of 64, in which the instant is worked once.
+- One place is \`turbelicus_place\`; a star of a night is a 64th of a night list of 64, whose instant is worked once.
 - ERFA's chain is \`bench/erfa_chain.c\`: \`eraCal2jd\`, \`eraDat\`, \`eraPrec76\`, the ten largest terms of nutation,
   \`eraObl80\`, \`eraNumat\`, \`eraGmst82\`, circular aberration, turns by matrices, \`eraC2s\`; Debian's library.
 - Instructions are counted by callgrind while the function runs; places a second are the best of 60 turns.
 - The ratio is the module's work over ERFA's: above 1 the module does more, or is slower.
 
-Machine: $(uname -m), $(processor).
+Machine: $(machine).
 
 | | module | ERFA | ratio | target |
 |-|-|-|-|-|
 END
     rows "one place" places turbelicus_place erfa_place 2.0
     rows "a star of a night" nights inner_night_list erfa_night 3.0
+    cat <<END
+
+## Where the instructions go
+
+What the compiler has put into a function's caller counts for the caller.
+
+| one place, in | share |
+|-|-|
+$(shares module_places)
+
+| a star of a night, in | share |
+|-|-|
+$(shares module_nights)
+END
 }
 
 need cc gcc
 need valgrind valgrind
-echo '#include <erfa.h>' | cc -E -x c - >/dev/null 2>&1 || { echo 'make bench: no erfa.h here; on Debian: apt-get install liberfa-dev' >&2; exit 1; }
+echo '#include <erfa.h>' | cc -E -x c - >/dev/null 2>&1 ||
+    { echo 'make bench: no erfa.h here; on Debian: apt-get install liberfa-dev' >&2; exit 1; }
 
 build
 apart=$($out/bench agree)
