@@ -1,5 +1,5 @@
 # What there is to do here. `make` alone lists it.
-.PHONY: help run test format clean
+.PHONY: help run test bench format clean
 .DEFAULT_GOAL := help
 
 help: ## list the targets
@@ -11,6 +11,9 @@ run: ## prove and run the program `places` on the stars of examples/bright.slt
 
 test: ## prove all and run all tests: the gate, .ci/run
 	@.ci/run
+
+bench: ## measure the module beside ERFA (needs cc, valgrind and liberfa-dev), and write docs/BENCH.md
+	@bench/run.sh
 
 format: ## lay out the Rattle, antt and Rust files
 	rt fmt

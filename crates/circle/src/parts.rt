@@ -4,7 +4,6 @@
 use crate::rows;
 use crate::units::HALF;
 use crate::units::HALF_IN_PARTS;
-use crate::units::UNIT;
 use rules::Pair;
 ghost use mathlib.Core.Path.{_≡_};
 ghost use Prim.Native.Nat.{ℕ};
@@ -31,7 +30,7 @@ pub fn pair_of_parts(x: i64) -> Pair
     ensures { λ r. ⌜ r ≡ pairOfParts x ⌝ }
 {
     let w = rows::square_parts(x);
-    let s = whole::rnd_quotient(x * rows::sine_factor(w), UNIT);
+    let s = whole::rnd_by_unit(x * rows::sine_factor(w));
     pair_to_length(rows::raw_cosine(w), s)
 }
 
@@ -40,7 +39,7 @@ fn pair_to_length(c: i64, s: i64) -> Pair
     requires { ⌜ PairGiven (record { cosine = c; sine = s }) ⌝ }
     ensures { λ r. ⌜ r ≡ pairToLength (record { cosine = c; sine = s }) ⌝ }
 {
-    let l = whole::whole_root(c * c + s * s);
+    let l = whole::length_root(c * c + s * s);
     Pair {
         cosine: length::part_to(c, l),
         sine: length::part_to(s, l),

@@ -45,10 +45,11 @@ const STEPS: [i64; 27] = [
 pub fn tai_minus_utc(day: i64) -> i64
     ensures { λ r. ⌜ r ≡ pos (rule.taiMinusUtc day) ⌝ }
 {
+    let steps = STEPS;
     let mut seconds: i64 = 10;
     let mut k: usize = 0;
     while k < 27 {
-        if STEPS[k] <= day {
+        if steps[k] <= day {
             seconds += 1;
         }
         k += 1;

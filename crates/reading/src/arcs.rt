@@ -19,7 +19,7 @@ fn arc_stage(w: i64, k: i64, p: i64) -> i64
     requires { ⌜ StageGiven w k p ⌝ }
     ensures { λ r. ⌜ r ≡ rule.arcStage w (natAbs k) p ⌝ }
 {
-    whole::rnd_quotient(UNIT, k) - whole::rnd_quotient(w * p, UNIT)
+    whole::rnd_quotient(UNIT, k) - whole::rnd_by_unit(w * p)
 }
 
 // The arc's row: θ over u.
@@ -47,7 +47,7 @@ pub fn arc(u: i64) -> i64
     ensures { λ r. ⌜ r ≡ rule.arc u ⌝ }
 {
     let w = rows::square_parts(u);
-    whole::rnd_quotient(u * arc_factor(w), UNIT)
+    whole::rnd_by_unit(u * arc_factor(w))
 }
 
 // Rnd(θ * 648,000,000,000 / 3,373,259,426): radians to µas. The product passes the word, so it is

@@ -20,7 +20,7 @@ fn ratio_of(a: i64, b: i64) -> i64
     requires { ⌜ RatioGiven a b ⌝ }
     ensures { λ r. ⌜ r ≡ ratio (natAbs a) (natAbs b) ⌝ }
 {
-    whole::rnd_quotient(a * UNIT, b)
+    whole::rnd_short_quotient(a * UNIT, b)
 }
 
 // From m, the smaller size, and n, the larger: the angle from 0 to half a quarter.

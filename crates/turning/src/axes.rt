@@ -6,9 +6,6 @@ ghost use mathlib.Core.Path.{_≡_};
 ghost use Rattle.rules.specs.Turning.{turn3, exchanged, turnAbout};
 ghost use Rattle.turning.specs.Given.{TurnFits};
 
-// 1 in a cosine or a sine.
-const UNIT: i64 = 1073741824;
-
 // The cyclic exchange takes the axis to the third place, and back again after the turn.
 pub fn turn_about(v: Direction, axis: i64, p: Pair) -> Direction
     requires { ⌜ TurnFits v p ⌝ }
@@ -29,8 +26,8 @@ fn turn_3(v: Direction, p: Pair) -> Direction
     ensures { λ r. ⌜ r ≡ turn3 p v ⌝ }
 {
     Direction {
-        x: whole::rnd_quotient(p.cosine * v.x - p.sine * v.y, UNIT),
-        y: whole::rnd_quotient(p.sine * v.x + p.cosine * v.y, UNIT),
+        x: whole::rnd_by_unit(p.cosine * v.x - p.sine * v.y),
+        y: whole::rnd_by_unit(p.sine * v.x + p.cosine * v.y),
         z: v.z,
     }
 }

@@ -4,12 +4,13 @@ ghost use mathlib.Core.Path.{_≡_};
 ghost use Prim.Native.Nat.{ℕ, _≤_, _^_};
 ghost use lib.IntN.{ℤ, pos, natAbs, _*ℤ_};
 ghost use lib.Signed.{_<ℤ_, _≤ℤ_};
-ghost use Rattle.rules.specs.Units.{circle, between};
+ghost use Rattle.rules.specs.Units.{circle, unit, between};
 ghost use Rattle.rules.specs.Rounding.{rnd, modulo};
 ghost use Rattle.rules.specs.Length.{root};
 ghost use Rattle.laws.specs.Product.{ProductFits};
 ghost use Rattle.laws.specs.Root.{closer};
 ghost use Rattle.whole.specs.Trial.{Trial};
+ghost use Rattle.whole.specs.NearSquare.{NearSquare};
 
 // C: the circle, in µas.
 const CIRCLE: i64 = 1296000000000;
@@ -27,6 +28,18 @@ const NEAR: i64 = 1073741856;
 
 const NEAR_SQUARE: i64 = 1152921573326324736;
 
+// Half of 2^30.
+const HALF_UNIT: i64 = 536870912;
+
+// 2^30 - 64 and its square, 2^38 - 1 above that, and 2^31: near 2^60 a square goes up by nearly as much to the next.
+const LOW: i64 = 1073741760;
+
+const LOW_SQUARE: i64 = 1152921367167897600;
+
+const HIGH_SQUARE: i64 = 1152921642045804543;
+
+const SQUARE_STEP: i64 = 2147483648;
+
 // Rnd(a / b): the nearest whole number, halves away from zero.
 //
 // Given: a, any; b from 1 to 2^62.
@@ -41,6 +54,41 @@ pub fn rnd_quotient(a: i64, b: i64) -> i64
     ensures { λ r. ⌜ r ≡ rnd a (natAbs b) ⌝ }
 {
     a / b + 2 * (a % b) / b
+}
+
+// Rnd(a / b) of a dividend that leaves room in the word: one division.
+//
+// Given: a, to 2^62 in size; b from 1 to 2^62.
+// Returned: Rnd(a / b), no larger in size than a.
+// Rule: 01, "Numbers, angles, instants".
+//
+// Half of b is added away from zero, and the operator goes back toward zero.
+pub fn rnd_short_quotient(a: i64, b: i64) -> i64
+    requires { ⌜ natAbs a ≤ 2 ^ 62 ⌝ }
+    requires { ⌜ pos 0 <ℤ b ⌝ }
+    requires { ⌜ natAbs b ≤ 2 ^ 62 ⌝ }
+    ensures { λ r. ⌜ r ≡ rnd a (natAbs b) ⌝ }
+{
+    let half = b / 2;
+    if a < 0 {
+        (a - half) / b
+    } else {
+        (a + half) / b
+    }
+}
+
+// Rnd(a / 2^30) of a dividend that leaves room in the word: no division, and no case on the sign.
+//
+// Given: a, to 2^62 in size.
+// Returned: Rnd(a / 2^30), no larger in size than a.
+// Rule: 01, "Numbers, angles, instants".
+//
+// A shift goes down: half of 2^30 is added, and one less below nought, where a half goes down too.
+pub fn rnd_by_unit(a: i64) -> i64
+    requires { ⌜ natAbs a ≤ 2 ^ 62 ⌝ }
+    ensures { λ r. ⌜ r ≡ rnd a unit ⌝ }
+{
+    (a + HALF_UNIT + (a >> 63)) >> 30
 }
 
 // Rnd(a * b / d), though a * b may pass the word.
@@ -89,6 +137,34 @@ fn first_trial(n: i64) -> i64
     ensures { λ r. ⌜ Trial n r ⌝ }
 {
     if n < NEAR_SQUARE { NEAR } else { ROOTS }
+}
+
+// The whole root of a squared length, downward.
+//
+// Given: n, not negative.
+// Returned: the largest number whose square is at most n.
+// Rule: 01, "L is the whole root (downward)".
+//
+// Most lengths are near 2^30, and there the root needs no division.
+pub fn length_root(n: i64) -> i64
+    requires { ⌜ pos 0 ≤ℤ n ⌝ }
+    ensures { λ r. ⌜ r ≡ pos (root (natAbs n)) ⌝ }
+{
+    if is_between(LOW_SQUARE, HIGH_SQUARE, n) {
+        return near_root(n);
+    }
+    whole_root(n)
+}
+
+// The root of a number near 2^60: from LOW on, squares go up by little less than 2^31, so that the quotient is the root or
+// one below.
+fn near_root(n: i64) -> i64
+    requires { ⌜ NearSquare n ⌝ }
+    ensures { λ r. ⌜ r ≡ pos (root (natAbs n)) ⌝ }
+{
+    let r = LOW + (n - LOW_SQUARE) / SQUARE_STEP;
+    let next = r + 1;
+    if n < next * next { r } else { next }
 }
 
 // The mean of a trial and n / trial.

@@ -17,12 +17,12 @@ squares-sum-requires c κs = search needs
 sum-is : (c : tie.After-squares-sum) → toZ w64 (ofZ w64 (c .squares-sum .result)) ≡ pos (squares (c .before .args .v))
 sum-is c = held64 (c .squares-sum .result) (c .squares-sum .ok) ∙ c .squares-sum .ensures
 
-whole-root-requires : tie.Need-whole-root-requires
-whole-root-requires c κs = rw (sum-is c) (record { le = le→leb 0 (squares (c .before .args .v)) (omega arith) })
+length-root-requires : tie.Need-length-root-requires
+length-root-requires c κs = rw (sum-is c) (record { le = le→leb 0 (squares (c .before .args .v)) (omega arith) })
 
 returns : tie.Need-returns
 returns c =
-    held64 (c .whole-root .result) (c .whole-root .ok) ∙ rw (sum-is (c .before)) at (c .whole-root .ensures)
+    held64 (c .length-root .result) (c .length-root .ok) ∙ rw (sum-is (c .before)) at (c .length-root .ensures)
 
 pub length-of-spec : {M : Type 1} → statement M
-length-of-spec = tie.close (tie.spec squares-sum-requires whole-root-requires returns)
+length-of-spec = tie.close (tie.spec squares-sum-requires length-root-requires returns)

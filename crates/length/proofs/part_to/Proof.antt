@@ -20,17 +20,19 @@ product-holds : (c : tie.Start)
     → Holds (bits (c .args .part) *ʷ unit) (c .args .part *ℤ pos unit) (2 ^ 32 * unit)
 product-holds c = mul (part-holds c) (lit unit tt) tt
 
-mul-rnd-quotient : tie.Need-mul-rnd-quotient
-mul-rnd-quotient c = mul-ok (part-holds c) (lit unit tt) tt
+mul-rnd-short-quotient : tie.Need-mul-rnd-short-quotient
+mul-rnd-short-quotient c = mul-ok (part-holds c) (lit unit tt) tt
 
-rnd-quotient-requires : tie.Need-rnd-quotient-requires
-rnd-quotient-requires c κs = rw (length-holds c .value) (c .pre .length-pos, omega (arith, c .pre .length-le))
+rnd-short-quotient-requires : tie.Need-rnd-short-quotient-requires
+rnd-short-quotient-requires c κs =
+    rw (product-holds c .value, length-holds c .value)
+    (omega (arith, product-holds c .size), (c .pre .length-pos, omega (arith, c .pre .length-le)))
 
 returns : tie.Need-returns
 unfolding partTo
 returns c =
-    held64 (c .rnd-quotient .result) (c .rnd-quotient .ok)
-    ∙ rw (product-holds (c .before) .value, length-holds (c .before) .value) at (c .rnd-quotient .ensures)
+    held64 (c .rnd-short-quotient .result) (c .rnd-short-quotient .ok)
+    ∙ rw (product-holds (c .before) .value, length-holds (c .before) .value) at (c .rnd-short-quotient .ensures)
 
 pub part-to-spec : {M : Type 1} → statement M
-part-to-spec = tie.close (tie.spec mul-rnd-quotient rnd-quotient-requires returns)
+part-to-spec = tie.close (tie.spec mul-rnd-short-quotient rnd-short-quotient-requires returns)

@@ -2,9 +2,7 @@
 use Prim.Native.Nat.{_*_}
 use mathlib.Core.Path.{_∙_}
 use native.Mathlib.Omega.{arith}
-use lib.Dec.{lit≤}
 use lib.IntN.{pos, _*ℤ_}
-use lib.Signed.{ltZ-yes}
 use borrow.Author.Needs.{needs}
 use Rattle.rules.specs.Units.{unit}
 use Rattle.rules.specs.Circle.{squareParts, stages, sineRow, rawSine, rawCosine, pairOfParts}
@@ -38,12 +36,12 @@ product-holds : (c : tie.After-sine-factor)
     (halfQuarterParts * unit)
 product-holds c = mul (x-holds (c .before .before)) (p-holds c) tt
 
-s-holds : (c : tie.After-rnd-quotient)
-    → Holds (bits (c .rnd-quotient .result)) (rawSine (c .before .before .before .args .x)) halfQuarterParts
+s-holds : (c : tie.After-rnd-by-unit)
+    → Holds (bits (c .rnd-by-unit .result)) (rawSine (c .before .before .before .args .x)) halfQuarterParts
 unfolding rawSine
 s-holds c =
     let x = c .before .before .before .args .x in
-    got (rw (product-holds (c .before) .value) at (c .rnd-quotient .ensures))
+    got (rw (product-holds (c .before) .value) at (c .rnd-by-unit .ensures))
     (upTo-le (rawSine x) halfQuarterParts (rawSine-range x (c .before .before .before .pre))) tt
 
 c-holds : (c : tie.After-raw-cosine)
@@ -60,11 +58,11 @@ square-parts-requires c κs = rw (x-holds c .value) (omega (arith, x-holds c .si
 sine-factor-requires : tie.Need-sine-factor-requires
 sine-factor-requires c κs = rw (w-holds c .value) (square-range (c .before .args .x) (c .before .pre))
 
-mul-rnd-quotient : tie.Need-mul-rnd-quotient
-mul-rnd-quotient c = mul-ok (x-holds (c .before .before)) (p-holds c) tt
+mul-rnd-by-unit : tie.Need-mul-rnd-by-unit
+mul-rnd-by-unit c = mul-ok (x-holds (c .before .before)) (p-holds c) tt
 
-rnd-quotient-requires : tie.Need-rnd-quotient-requires
-rnd-quotient-requires c κs = (ltZ-yes tt, lit≤ tt)
+rnd-by-unit-requires : tie.Need-rnd-by-unit-requires
+rnd-by-unit-requires c κs = rw (product-holds c .value) (omega (arith, product-holds c .size))
 
 raw-cosine-requires : tie.Need-raw-cosine-requires
 raw-cosine-requires c κs =
@@ -93,8 +91,8 @@ pair-of-parts-spec =
     (tie.spec
     square-parts-requires
     sine-factor-requires
-    mul-rnd-quotient
-    rnd-quotient-requires
+    mul-rnd-by-unit
+    rnd-by-unit-requires
     raw-cosine-requires
     pair-to-length-requires
     returns)

@@ -47,9 +47,9 @@ squares-le c =
 length-le : (c : tie.Start) → length c ≤ 2 * unit
 length-le c = root-le (pairSquares (given c)) (2 * unit) (omega (arith, squares-le c)) (omega (arith, squares-le c))
 
-length-holds : (c : tie.After-whole-root) → Holds (bits (c .whole-root .result)) (pos (length (c .before))) (2 * unit)
+length-holds : (c : tie.After-length-root) → Holds (bits (c .length-root .result)) (pos (length (c .before))) (2 * unit)
 length-holds c =
-    got (rw (squares-hold (c .before) .value, squares-is (given (c .before))) at (c .whole-root .ensures))
+    got (rw (squares-hold (c .before) .value, squares-is (given (c .before))) at (c .length-root .ensures))
     (length-le (c .before)) tt
 
 -- ---- the parts
@@ -88,17 +88,17 @@ sine-holds c =
 
 -- ---- the needs
 
-mul-whole-root : tie.Need-mul-whole-root
-mul-whole-root c = mul-ok (c-holds c) (c-holds c) tt
+mul-length-root : tie.Need-mul-length-root
+mul-length-root c = mul-ok (c-holds c) (c-holds c) tt
 
-mul-whole-root-2 : tie.Need-mul-whole-root-2
-mul-whole-root-2 c = mul-ok (s-holds c) (s-holds c) tt
+mul-length-root-2 : tie.Need-mul-length-root-2
+mul-length-root-2 c = mul-ok (s-holds c) (s-holds c) tt
 
-add-whole-root : tie.Need-add-whole-root
-add-whole-root c = add-ok (mul (c-holds c) (c-holds c) tt) (mul (s-holds c) (s-holds c) tt) tt
+add-length-root : tie.Need-add-length-root
+add-length-root c = add-ok (mul (c-holds c) (c-holds c) tt) (mul (s-holds c) (s-holds c) tt) tt
 
-whole-root-requires : tie.Need-whole-root-requires
-whole-root-requires c κs =
+length-root-requires : tie.Need-length-root-requires
+length-root-requires c κs =
     rw (squares-hold c .value, squares-is (given c)) (record { le = le→leb 0 (pairSquares (given c)) (omega arith) })
 
 part-to-requires : tie.Need-part-to-requires
@@ -119,10 +119,10 @@ pub pair-to-length-spec : {M : Type 1} → statement M
 pair-to-length-spec =
     tie.close
     (tie.spec
-    mul-whole-root
-    mul-whole-root-2
-    add-whole-root
-    whole-root-requires
+    mul-length-root
+    mul-length-root-2
+    add-length-root
+    length-root-requires
     part-to-requires
     part-to-requires-2
     returns)

@@ -1,9 +1,8 @@
 -- `circle::rows::square_parts` meets its contract.
 use Prim.Native.Nat.{_*_}
 use mathlib.Core.Path.{_∙_}
-use lib.Dec.{lit≤}
+use native.Mathlib.Omega.{arith}
 use lib.IntN.{_*ℤ_}
-use lib.Signed.{ltZ-yes}
 use borrow.Author.Needs.{needs}
 use Rattle.rules.specs.Units.{unit}
 use Rattle.rules.specs.Circle as rule
@@ -18,15 +17,15 @@ square-holds : (c : tie.Start)
     → Holds (bits (c .args .x) *ʷ bits (c .args .x)) (c .args .x *ℤ c .args .x) (unit * unit)
 square-holds c = mul (x-holds c) (x-holds c) tt
 
-mul-rnd-quotient : tie.Need-mul-rnd-quotient
-mul-rnd-quotient c = mul-ok (x-holds c) (x-holds c) tt
+mul-rnd-by-unit : tie.Need-mul-rnd-by-unit
+mul-rnd-by-unit c = mul-ok (x-holds c) (x-holds c) tt
 
-rnd-quotient-requires : tie.Need-rnd-quotient-requires
-rnd-quotient-requires c κs = (ltZ-yes tt, lit≤ tt)
+rnd-by-unit-requires : tie.Need-rnd-by-unit-requires
+rnd-by-unit-requires c κs = rw (square-holds c .value) (omega (arith, square-holds c .size))
 
 returns : tie.Need-returns
 unfolding rule.squareParts
-returns c = search needs ∙ rw (square-holds (c .before) .value) at (c .rnd-quotient .ensures)
+returns c = search needs ∙ rw (square-holds (c .before) .value) at (c .rnd-by-unit .ensures)
 
 pub square-parts-spec : {M : Type 1} → statement M
-square-parts-spec = tie.close (tie.spec mul-rnd-quotient rnd-quotient-requires returns)
+square-parts-spec = tie.close (tie.spec mul-rnd-by-unit rnd-by-unit-requires returns)

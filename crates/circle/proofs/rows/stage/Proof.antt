@@ -34,24 +34,26 @@ divisor-pos : (k : ℤ) → 0 < natAbs k → UpTo k 132 → pos 0 <ℤ (pos unit
 divisor-pos (pos n) h r = record { lt = lt→ltb 0 (unit * n) (omega arith) }
 divisor-pos (negsuc n) h r = absurd (omega (arith, r .low))
 
-mul-rnd-quotient : tie.Need-mul-rnd-quotient
-mul-rnd-quotient c = mul-ok (w-holds c) (p-holds c) tt
+mul-rnd-short-quotient : tie.Need-mul-rnd-short-quotient
+mul-rnd-short-quotient c = mul-ok (w-holds c) (p-holds c) tt
 
-mul-rnd-quotient-2 : tie.Need-mul-rnd-quotient-2
-mul-rnd-quotient-2 c = mul-ok (lit unit tt) (k-holds c) tt
+mul-rnd-short-quotient-2 : tie.Need-mul-rnd-short-quotient-2
+mul-rnd-short-quotient-2 c = mul-ok (lit unit tt) (k-holds c) tt
 
-rnd-quotient-requires : tie.Need-rnd-quotient-requires
-rnd-quotient-requires c κs =
-    rw (divisor-holds c .value)
-    (divisor-pos (c .args .k) (c .pre .k-pos) (c .pre .k-range), omega (arith, divisor-holds c .size))
+rnd-short-quotient-requires : tie.Need-rnd-short-quotient-requires
+rnd-short-quotient-requires c κs =
+    rw (product-holds c .value, divisor-holds c .value) (
+      omega (arith, product-holds c .size),
+      (divisor-pos (c .args .k) (c .pre .k-pos) (c .pre .k-range), omega (arith, divisor-holds c .size)),
+    )
 
-quotient-holds : (c : tie.After-rnd-quotient)
-    → Holds (bits (c .rnd-quotient .result))
+quotient-holds : (c : tie.After-rnd-short-quotient)
+    → Holds (bits (c .rnd-short-quotient .result))
     (rnd (c .before .args .w *ℤ c .before .args .p) (unit * natAbs (c .before .args .k))) unit
 quotient-holds c =
     let b = c .before in
     got
-    (rw (product-holds b .value, divisor-holds b .value, abs-mul (pos unit) (b .args .k)) at (c .rnd-quotient .ensures))
+    (rw (product-holds b .value, divisor-holds b .value, abs-mul (pos unit) (b .args .k)) at (c .rnd-short-quotient .ensures))
     (rnd-under (b .args .w *ℤ b .args .p) (unit * natAbs (b .args .k)) unit (omega (arith, b .pre .k-pos))
     (omega (arith, product-holds b .size, b .pre .k-pos))) tt
 
@@ -63,4 +65,4 @@ unfolding rule.stage
 returns c = sub (lit unit tt) (quotient-holds c) tt .value
 
 pub stage-spec : {M : Type 1} → statement M
-stage-spec = tie.close (tie.spec mul-rnd-quotient mul-rnd-quotient-2 rnd-quotient-requires sub-result returns)
+stage-spec = tie.close (tie.spec mul-rnd-short-quotient mul-rnd-short-quotient-2 rnd-short-quotient-requires sub-result returns)

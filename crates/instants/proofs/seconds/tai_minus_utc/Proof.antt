@@ -20,11 +20,11 @@ use Rattle.instants.proofs.seconds.tai_minus_utc.Statement.{statement}
 use Rattle.instants.proofs.seconds.tai_minus_utc.Tie as tie
 
 abbrev Inv-loop : tie.InvT-loop
-Inv-loop day seconds₀ k₀ seconds k =
+Inv-loop day steps seconds₀ k₀ seconds k =
     (k ≤ 27) × (seconds + upTo (toZ w64 day) (drop k stepNumbers) ≡ 10 + upTo (toZ w64 day) stepNumbers)
 
 abbrev μ-loop : tie.MeasureT-loop
-μ-loop day seconds₀ k₀ seconds k = 27 - k
+μ-loop day steps seconds₀ k₀ seconds k = 27 - k
 
 loop-holds : tie.Need-loop-holds Inv-loop μ-loop
 loop-holds c = search needs

@@ -4,7 +4,6 @@ use mathlib.Core.Path.{_∙_}
 use native.Mathlib.Omega.{arith}
 use lib.Dec.{lit≤}
 use lib.IntN.{pos, _*ℤ_}
-use lib.Signed.{ltZ-yes}
 use borrow.Author.Needs.{needs}
 use Rattle.rules.specs.Units.{unit}
 use Rattle.rules.specs.Rounding.{rnd}
@@ -50,17 +49,17 @@ square-parts-requires c κs = rw (u-holds c .value) (omega (arith, u-holds c .si
 arc-factor-requires : tie.Need-arc-factor-requires
 arc-factor-requires c κs = rw (w-holds c .value) (w-range (c .before))
 
-mul-rnd-quotient : tie.Need-mul-rnd-quotient
-mul-rnd-quotient c = mul-ok (u-holds (c .before .before)) (p-holds c) tt
+mul-rnd-by-unit : tie.Need-mul-rnd-by-unit
+mul-rnd-by-unit c = mul-ok (u-holds (c .before .before)) (p-holds c) tt
 
-rnd-quotient-requires : tie.Need-rnd-quotient-requires
-rnd-quotient-requires c κs = (ltZ-yes tt, lit≤ tt)
+rnd-by-unit-requires : tie.Need-rnd-by-unit-requires
+rnd-by-unit-requires c κs = rw (product-holds c .value) (omega (arith, product-holds c .size))
 
 returns : tie.Need-returns
 unfolding rule.arc
-returns c = search needs ∙ rw (product-holds (c .before) .value) at (c .rnd-quotient .ensures)
+returns c = search needs ∙ rw (product-holds (c .before) .value) at (c .rnd-by-unit .ensures)
 
 pub arc-spec : {M : Type 1} → statement M
 arc-spec =
     tie.close
-    (tie.spec square-parts-requires arc-factor-requires mul-rnd-quotient rnd-quotient-requires returns)
+    (tie.spec square-parts-requires arc-factor-requires mul-rnd-by-unit rnd-by-unit-requires returns)

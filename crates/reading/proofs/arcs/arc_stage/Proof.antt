@@ -1,9 +1,9 @@
 -- `circle::arcs::arc_stage` meets its contract.
 use Prim.Native.Nat.{_*_, _<_}
 use native.Mathlib.Omega.{arith}
-use lib.Dec.{lit<, lit≤, lt→ltb}
+use lib.Dec.{lit<, lt→ltb}
 use lib.IntN.{ℤ, pos, negsuc, natAbs, _*ℤ_}
-use lib.Signed.{_<ℤ_, ltZ-yes}
+use lib.Signed.{_<ℤ_}
 use Rattle.rules.specs.Units.{unit}
 use Rattle.rules.specs.Rounding.{rnd}
 use Rattle.rules.specs.Reading as rule
@@ -37,22 +37,24 @@ first-holds c =
     got (rw (k-holds (c .before) .value) at (c .rnd-quotient .ensures))
     (rnd-le (pos unit) (natAbs k) (c .before .pre .k-pos)) tt
 
-second-holds : (c : tie.After-rnd-quotient2)
-    → Holds (bits (c .rnd-quotient2 .result)) (rnd (c .before .before .args .w *ℤ c .before .before .args .p) unit) unit
+second-holds : (c : tie.After-rnd-by-unit)
+    → Holds (bits (c .rnd-by-unit .result)) (rnd (c .before .before .args .w *ℤ c .before .before .args .p) unit) unit
 second-holds c =
     let b = c .before .before in
-    got (rw (product-holds b .value) at (c .rnd-quotient2 .ensures))
+    got (rw (product-holds b .value) at (c .rnd-by-unit .ensures))
     (rnd-under (b .args .w *ℤ b .args .p) unit unit (lit< tt) (product-holds b .size)) tt
 
 rnd-quotient-requires : tie.Need-rnd-quotient-requires
 rnd-quotient-requires c κs =
     rw (k-holds c .value) (above (c .args .k) (c .pre .k-pos) (c .pre .k-range), omega (arith, k-holds c .size))
 
-mul-rnd-quotient : tie.Need-mul-rnd-quotient
-mul-rnd-quotient c = mul-ok (w-holds (c .before)) (p-holds (c .before)) tt
+mul-rnd-by-unit : tie.Need-mul-rnd-by-unit
+mul-rnd-by-unit c = mul-ok (w-holds (c .before)) (p-holds (c .before)) tt
 
-rnd-quotient-requires-2 : tie.Need-rnd-quotient-requires-2
-rnd-quotient-requires-2 c κs = (ltZ-yes tt, lit≤ tt)
+rnd-by-unit-requires : tie.Need-rnd-by-unit-requires
+rnd-by-unit-requires c κs =
+    let b = c .before in
+    rw (product-holds b .value) (omega (arith, product-holds b .size))
 
 sub-result : tie.Need-sub-result
 sub-result c = sub-ok (first-holds (c .before)) (second-holds c) tt
@@ -64,4 +66,4 @@ returns c = sub (first-holds (c .before)) (second-holds c) tt .value
 pub arc-stage-spec : {M : Type 1} → statement M
 arc-stage-spec =
     tie.close
-    (tie.spec rnd-quotient-requires mul-rnd-quotient rnd-quotient-requires-2 sub-result returns)
+    (tie.spec rnd-quotient-requires mul-rnd-by-unit rnd-by-unit-requires sub-result returns)

@@ -26,18 +26,20 @@ product-le c = omega (arith, c .pre .ratio-le, b-holds c .size)
 product-holds : (c : tie.Start) → Holds (bits (c .args .a) *ʷ unit) (pos (natAbs (c .args .a) * unit)) (2 ^ 61)
 product-holds c = mul-to (a-holds c) (lit unit tt) (2 ^ 61) (product-le c) tt
 
-mul-rnd-quotient : tie.Need-mul-rnd-quotient
-mul-rnd-quotient c = mul-to-ok (a-holds c) (lit unit tt) (2 ^ 61) (product-le c) tt
+mul-rnd-short-quotient : tie.Need-mul-rnd-short-quotient
+mul-rnd-short-quotient c = mul-to-ok (a-holds c) (lit unit tt) (2 ^ 61) (product-le c) tt
 
-rnd-quotient-requires : tie.Need-rnd-quotient-requires
-rnd-quotient-requires c κs =
-    rw (b-holds c .value)
-    (record { lt = lt→ltb 0 (natAbs (c .args .b)) (c .pre .b-pos) }, omega (arith, b-holds c .size))
+rnd-short-quotient-requires : tie.Need-rnd-short-quotient-requires
+rnd-short-quotient-requires c κs =
+    rw (product-holds c .value, b-holds c .value) (
+      omega (arith, product-holds c .size),
+      (record { lt = lt→ltb 0 (natAbs (c .args .b)) (c .pre .b-pos) }, omega (arith, b-holds c .size)),
+    )
 
 returns : tie.Need-returns
 returns c =
     search needs
-    ∙ rw (product-holds (c .before) .value, b-holds (c .before) .value) at (c .rnd-quotient .ensures)
+    ∙ rw (product-holds (c .before) .value, b-holds (c .before) .value) at (c .rnd-short-quotient .ensures)
 
 pub ratio-of-spec : {M : Type 1} → statement M
-ratio-of-spec = tie.close (tie.spec mul-rnd-quotient rnd-quotient-requires returns)
+ratio-of-spec = tie.close (tie.spec mul-rnd-short-quotient rnd-short-quotient-requires returns)

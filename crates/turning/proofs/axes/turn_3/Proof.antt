@@ -2,9 +2,7 @@
 use Prim.Native.Nat.{ℕ, _+_, _*_}
 use mathlib.Core.Path.{_∙_}
 use native.Mathlib.Omega.{arith}
-use lib.Dec.{lit≤}
 use lib.IntN.{ℤ, natAbs, _*ℤ_}
-use lib.Signed.{ltZ-yes}
 use Rattle.rules.specs.Units.{unit}
 use Rattle.rules.specs.Length.{square, pairSquares}
 use Rattle.rules.specs.Turning.{turn3}
@@ -80,36 +78,40 @@ start6 k = start4 (k .before .before .before .before .before)
 abbrev start8 : tie.After-struct-told8 → tie.Start
 start8 k = start6 (k .before .before .before .before)
 
-mul-rnd-quotient : tie.Need-mul-rnd-quotient
-mul-rnd-quotient k = let b = k .before .before .before .before in mul-ok (c-holds b) (x-holds b) tt
+mul-rnd-by-unit : tie.Need-mul-rnd-by-unit
+mul-rnd-by-unit k = let b = k .before .before .before .before in mul-ok (c-holds b) (x-holds b) tt
 
-mul-rnd-quotient-2 : tie.Need-mul-rnd-quotient-2
-mul-rnd-quotient-2 k = mul-ok (s-holds (start4 k)) (y-holds (start4 k)) tt
+mul-rnd-by-unit-2 : tie.Need-mul-rnd-by-unit-2
+mul-rnd-by-unit-2 k = mul-ok (s-holds (start4 k)) (y-holds (start4 k)) tt
 
-sub-rnd-quotient : tie.Need-sub-rnd-quotient
-sub-rnd-quotient k = sub-ok (cx-holds (start4 k)) (sy-holds (start4 k)) tt
+sub-rnd-by-unit : tie.Need-sub-rnd-by-unit
+sub-rnd-by-unit k = sub-ok (cx-holds (start4 k)) (sy-holds (start4 k)) tt
 
-rnd-quotient-requires : tie.Need-rnd-quotient-requires
-rnd-quotient-requires k κs = (ltZ-yes tt, lit≤ tt)
+rnd-by-unit-requires : tie.Need-rnd-by-unit-requires
+rnd-by-unit-requires k κs =
+    let sum = sub (cx-holds (start4 k)) (sy-holds (start4 k)) tt in
+    rw (sum .value) (omega (arith, sum .size))
 
-mul-rnd-quotient-3 : tie.Need-mul-rnd-quotient-3
-mul-rnd-quotient-3 k = mul-ok (s-holds (start6 k)) (x-holds (start6 k)) tt
+mul-rnd-by-unit-3 : tie.Need-mul-rnd-by-unit-3
+mul-rnd-by-unit-3 k = mul-ok (s-holds (start6 k)) (x-holds (start6 k)) tt
 
-mul-rnd-quotient-4 : tie.Need-mul-rnd-quotient-4
-mul-rnd-quotient-4 k = mul-ok (c-holds (start8 k)) (y-holds (start8 k)) tt
+mul-rnd-by-unit-4 : tie.Need-mul-rnd-by-unit-4
+mul-rnd-by-unit-4 k = mul-ok (c-holds (start8 k)) (y-holds (start8 k)) tt
 
-add-rnd-quotient : tie.Need-add-rnd-quotient
-add-rnd-quotient k = add-ok (sx-holds (start8 k)) (cy-holds (start8 k)) tt
+add-rnd-by-unit : tie.Need-add-rnd-by-unit
+add-rnd-by-unit k = add-ok (sx-holds (start8 k)) (cy-holds (start8 k)) tt
 
-rnd-quotient-requires-2 : tie.Need-rnd-quotient-requires-2
-rnd-quotient-requires-2 k κs = (ltZ-yes tt, lit≤ tt)
+rnd-by-unit-requires-2 : tie.Need-rnd-by-unit-requires-2
+rnd-by-unit-requires-2 k κs =
+    let sum = add (sx-holds (start8 k)) (cy-holds (start8 k)) tt in
+    rw (sum .value) (omega (arith, sum .size))
 
 returns : tie.Need-returns
 unfolding turn3
 returns k =
     let b = start8 (k .before .before) in
-    let first = k .before .before .before .before .before .before .before .before .before .before .rnd-quotient in
-    let second = k .before .rnd-quotient2 in
+    let first = k .before .before .before .before .before .before .before .before .before .before .rnd-by-unit in
+    let second = k .before .rnd-by-unit2 in
     let x-is = held64 (first .result) (first .ok)
     ∙ rw (sub (cx-holds b) (sy-holds b) tt .value) at (first .ensures) in
     let y-is = held64 (second .result) (second .ok)
@@ -120,12 +122,12 @@ pub turn-3-spec : {M : Type 1} → statement M
 turn-3-spec =
     tie.close
     (tie.spec
-    mul-rnd-quotient
-    mul-rnd-quotient-2
-    sub-rnd-quotient
-    rnd-quotient-requires
-    mul-rnd-quotient-3
-    mul-rnd-quotient-4
-    add-rnd-quotient
-    rnd-quotient-requires-2
+    mul-rnd-by-unit
+    mul-rnd-by-unit-2
+    sub-rnd-by-unit
+    rnd-by-unit-requires
+    mul-rnd-by-unit-3
+    mul-rnd-by-unit-4
+    add-rnd-by-unit
+    rnd-by-unit-requires-2
     returns)

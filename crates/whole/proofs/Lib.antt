@@ -1,2 +1,2 @@
 -- What the proofs share.
-mod Table
+mod Half
