@@ -1,6 +1,6 @@
-/* The functions that the crates `inner` and `inner_lists` export for tests alone. Nothing checks this against their
- * source: they change together. Where an answer has `refused`, it is the number of the refusal and the rest are noughts,
- * or it is 0. */
+/* The functions that the crates `inner`, `inner_dates`, `inner_earth` and `inner_lists` export for tests alone. Nothing
+ * checks this against their source: they change together. Where an answer has `refused`, it is the number of the refusal
+ * and the rest are noughts, or it is 0. */
 #ifndef INNER_H
 #define INNER_H
 #include <stddef.h>
