@@ -10,6 +10,7 @@ import shutil
 
 ROOT = pathlib.Path(__file__).resolve().parent.parent
 SPECS = ROOT / "crates/promises/specs"
+WIDTH = 120
 
 # the form of a contract: the lemma of Contracts.antt that serves it, and how many arguments are found by the prover
 LEMMAS = {"one": 1, "one-and": 3, "one-both": 4, "one-each": 4, "one-content": 3}
@@ -51,13 +52,13 @@ def theorem(name, given, answers, clauses):
     lent = [i for i, (_, kind) in enumerate(given) if kind.startswith("&mut")]
     written = lent[0] if lent else None
     lemma = lemma_of(written, answers, ensures)
-    contract = f"𝓤 {name}.ended ({name}.clauses 𝓤 H A mem run)"
-    holes = " _" * LEMMAS[lemma]
-    if written is None:
-        claim = f"OneAnswer {contract}"
-    else:
-        claim = f"OneAnswerAndContent {contract}\n      (λ κs x. now (x{' .1' * written} .0))"
-    return lemma, f"  pub {name}-one : {claim}\n  {name}-one κs passed g r s x y = {lemma} 𝓤 r s{holes}\n"
+    claim = "OneAnswer" if written is None else "OneAnswerAndContent"
+    content = "" if written is None else f"\n      (λ κs x. now (x{' .1' * written} .0))"
+    statement = f"  pub {name}-one : {claim} 𝓤 {name}.ended ({name}.clauses 𝓤 H A mem run)"
+    if len(statement) > WIDTH:
+        statement = statement.replace(" (", "\n      (", 1)
+    proof = f"  {name}-one κs passed g r s x y = {lemma} 𝓤 r s{' _' * LEMMAS[lemma]}\n"
+    return lemma, f"{statement}{content}\n{proof}"
 
 
 def page(crate):

@@ -2,7 +2,7 @@
 -- series; and what 01 promises of a reading and of the ranges of a place.
 use mathlib.Core.Path.{_≡_}
 use mathlib.Core.List.{List}
-use Prim.Native.Nat.{_+_, _*_, _-_, _≤_, _<_, _^_}
+use Prim.Native.Nat.{_+_, _*_, _≤_, _<_, _^_}
 use lib.ListN.{length}
 use lib.IntN.{ℤ, pos, natAbs, _+ℤ_, _-ℤ_, _*ℤ_}
 use lib.Signed.{_<ℤ_}
@@ -52,5 +52,6 @@ pub reading-along : (h v : ℤ) → 0 < natAbs h + natAbs v
 reading-along h v k = reading-reads h v k .along
 
 -- of every place that is answered
-pub place-in-range : (m : Moment) (star : Star) (site : Site) (p : Place) → place m star site ≡ Placed.At p → PlaceRanges p
+pub place-in-range : (m : Moment) (star : Star) (site : Site) (p : Place) → place m star site ≡ Placed.At p
+    → PlaceRanges p
 place-in-range m star site p e = place-ranges m star site p e

@@ -65,7 +65,8 @@ module _ {M : Type 1} (𝓤 : URA M) (H : Heap 𝓤) (A : Atoms 𝓤) (mem : Mem
   pub inner-on-circle-one : OneAnswer 𝓤 inner-on-circle.ended (inner-on-circle.clauses 𝓤 H A mem run)
   inner-on-circle-one κs passed g r s x y = one 𝓤 r s _
 
-  pub inner-rnd-product-quotient-one : OneAnswer 𝓤 inner-rnd-product-quotient.ended (inner-rnd-product-quotient.clauses 𝓤 H A mem run)
+  pub inner-rnd-product-quotient-one : OneAnswer 𝓤 inner-rnd-product-quotient.ended
+      (inner-rnd-product-quotient.clauses 𝓤 H A mem run)
   inner-rnd-product-quotient-one κs passed g r s x y = one 𝓤 r s _
 
   pub inner-pair-one : OneAnswer 𝓤 inner-pair.ended (inner-pair.clauses 𝓤 H A mem run)

@@ -22,7 +22,8 @@ module _ {M : Type 1} (𝓤 : URA M) (H : Heap 𝓤) (A : Atoms 𝓤) (mem : Mem
   pub turbelicus-list-star-one : OneAnswer 𝓤 turbelicus-list-star.ended (turbelicus-list-star.clauses 𝓤 H A mem run)
   turbelicus-list-star-one κs passed g r s x y = one 𝓤 r s _
 
-  pub turbelicus-list-write-one : OneAnswerAndContent 𝓤 turbelicus-list-write.ended (turbelicus-list-write.clauses 𝓤 H A mem run)
+  pub turbelicus-list-write-one : OneAnswerAndContent 𝓤 turbelicus-list-write.ended
+      (turbelicus-list-write.clauses 𝓤 H A mem run)
       (λ κs x. now (x .1 .0))
   turbelicus-list-write-one κs passed g r s x y = one-both 𝓤 r s _ _ _ _
 
