@@ -1,9 +1,10 @@
 #!/usr/bin/env python3
 """Writes examples/bright.slt, a list file of document 01, and examples/bright.txt, its names by entry number.
 
-Places and motions are those of the Hipparcos catalogue at J2000, as catalogues print them: the motion in right ascension
-is along the sky, with the cosine of the declination in it. Document 01 asks for the motion of the coordinate, without a
-cosine, so it is divided out here.
+Places and motions are those of the Hipparcos catalogue in its newer reduction, at J2000, as catalogues print them: the
+motion in right ascension is along the sky, with the cosine of the declination in it. Document 01 asks for the motion of
+the coordinate, without a cosine, so it is divided out here. Beside PyEphem's list, of the older reduction, each star is
+within 0.03″ and 3 mas a year; Castor, a close pair, within 0.14″ and 15 mas a year.
 """
 import math
 import struct

@@ -6,12 +6,12 @@ ghost use Rattle.laws.specs.Ranges.{InRange};
 ghost use Rattle.laws.specs.DayNumbers.{RealDate};
 ghost use Rattle.laws.specs.Found.{DaysOfYear, dateIn};
 ghost use Rattle.laws.specs.Parts.{dateOfParts};
-use crate::years::is_between;
 use crate::years::leap;
 use crate::years::month_days;
 use crate::years::months_before;
 use crate::years::years_before;
 use rules::Date;
+use whole::is_between;
 
 // Whether there is no such month or day.
 pub fn day_refused(year: i64, month: i64, day: i64) -> bool

@@ -3,7 +3,6 @@ ghost use mathlib.Core.Path.{_≡_};
 ghost use Prim.Native.Nat.{_<_, _≤_, _-_};
 ghost use lib.IntN.{pos, natAbs};
 ghost use lib.ListN.{getD, take};
-ghost use Rattle.rules.specs.Units.{between};
 ghost use Rattle.rules.specs.Calendar as rule;
 ghost use Rattle.laws.specs.Ranges.{InRange};
 ghost use Rattle.laws.specs.Calendar.{row};
@@ -13,13 +12,6 @@ const DAYS: [[u8; 12]; 2] = [
     [31, 28, 31, 30, 31, 30, 31, 31, 30, 31, 30, 31],
     [31, 29, 31, 30, 31, 30, 31, 31, 30, 31, 30, 31],
 ];
-
-// Whether z lies from low to high.
-pub fn is_between(low: i64, high: i64, z: i64) -> bool
-    ensures { λ r. ⌜ r ≡ between low high z ⌝ }
-{
-    low <= z && z <= high
-}
 
 // 1 in a leap year, 0 in a common one.
 pub fn leap(year: i64) -> usize

@@ -10,11 +10,11 @@ ghost use mathlib.Core.Path.{_≡_};
 ghost use Prim.Native.Nat.{ℕ};
 ghost use lib.IntN.{ℤ, natAbs};
 ghost use Rattle.rules.specs.Units.{halfQuarter};
-ghost use Rattle.rules.specs.Length.{partTo, pairToLength};
+ghost use Rattle.rules.specs.Length.{pairToLength};
 ghost use Rattle.rules.specs.Circle.{radianParts, pairOfParts};
 ghost use Rattle.laws.specs.Near.{UpTo};
 ghost use Rattle.laws.specs.Circle.{halfQuarterParts};
-ghost use Rattle.circle.specs.Given.{PartGiven, PairGiven};
+ghost use Rattle.circle.specs.Given.{PairGiven};
 
 // x = Rnd(r * 3,373,259,426 / 648,000,000,000): µas to radians. The product passes the word, so it
 // is carried.
@@ -42,15 +42,7 @@ fn pair_to_length(c: i64, s: i64) -> Pair
 {
     let l = whole::whole_root(c * c + s * s);
     Pair {
-        cosine: part_to(l, c),
-        sine: part_to(l, s),
+        cosine: length::part_to(c, l),
+        sine: length::part_to(s, l),
     }
-}
-
-// Rnd(part * 2^30 / l).
-fn part_to(l: i64, part: i64) -> i64
-    requires { ⌜ PartGiven l part ⌝ }
-    ensures { λ r. ⌜ r ≡ partTo (natAbs l) part ⌝ }
-{
-    whole::rnd_quotient(part * UNIT, l)
 }

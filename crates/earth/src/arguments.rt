@@ -1,7 +1,7 @@
 // The five arguments of nutation, of TT.
 
-use crate::instant::refused_instant;
-use crate::polynomials::cubic;
+use polynomials::cubic;
+use polynomials::refused_instant;
 use rules::Argued;
 use rules::Arguments;
 use rules::Refusal;

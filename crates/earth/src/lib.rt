@@ -1,12 +1,7 @@
-// What the instant alone decides: precession, obliquity, nutation and the Sun of TT, the sidereal
-// angle of UT. A function that ends in `_of` takes an instant that is proved to be in range; the one
-// without checks it.
+// What the instant alone decides by polynomials: the arguments, precession and obliquity of TT, the
+// sidereal angle of UT. A function that ends in `_of` takes an instant that is proved to be in range;
+// the one without checks it.
 
 pub mod arguments;
-mod instant;
-pub mod nutation;
-mod polynomials;
 pub mod precession;
 pub mod sidereal;
-pub mod sun;
-mod terms;

@@ -1,7 +1,7 @@
 // Precession from J2000 and the mean obliquity, of TT.
 
-use crate::instant::refused_instant;
-use crate::polynomials::cubic;
+use polynomials::cubic;
+use polynomials::refused_instant;
 use rules::Angle;
 use rules::Precessed;
 use rules::Precession;

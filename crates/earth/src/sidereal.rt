@@ -1,7 +1,7 @@
 // The sidereal angle, of UT.
 
-use crate::instant::refused_instant;
-use crate::polynomials::cubic;
+use polynomials::cubic;
+use polynomials::refused_instant;
 use rules::Angle;
 use rules::Refusal;
 use rules::Ut;

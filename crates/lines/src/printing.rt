@@ -5,7 +5,7 @@ ghost use lib.ListN.{length};
 ghost use lib.Seq.{sets};
 ghost use Rattle.rules.specs.Times as rule;
 ghost use Rattle.lines.specs.Printed.{answerTo, refusedTo};
-use crate::decimals::put;
+use decimals::put;
 use rules::Instants;
 use rules::Line;
 use rules::Moment;
@@ -60,7 +60,7 @@ pub fn put_moment(moment: Moment, out: &mut [u8]) -> usize
     ensures { λ _. ⌜ now (out .exit) ≡ sets (now (out .entry)) 0 (answerTo moment) ⌝ }
 {
     match calendar::day_of(moment.date) {
-        Numbered::Day(n) => put_instants(n, calendar::instants(moment), out),
+        Numbered::Day(n) => put_instants(n, instants::instants(moment), out),
         Numbered::Refused(r) => put_refused(refusals::number(r), out),
     }
 }

@@ -69,7 +69,7 @@ pub extern "C" fn turbelicus_list_write(numbers: &[i64], room: &mut [u8]) -> Tur
         (numbersWritten (now (numbers .entry)) (now (room .entry)))))
         × (now (room .exit) ≡ roomAfterNumbers (now (numbers .entry)) (now (room .entry))) ⌝ }
 {
-    written_out(star_file::writing::list_write(numbers, room))
+    written_out(star_writing::list_write(numbers, room))
 }
 
 fn counted_out(a: Listed) -> TurbelicusCounted

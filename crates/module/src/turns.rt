@@ -40,7 +40,7 @@ pub extern "C" fn turbelicus_turn(x: i64, y: i64, z: i64, axis: i64, angle: i64)
 pub extern "C" fn turbelicus_reading(h: i32, v: i32) -> i64
     ensures { λ r. ⌜ r ≡ reading h v ⌝ }
 {
-    circle::reading(h, v)
+    reading::reading(h, v)
 }
 
 fn turned_out(a: Turned) -> TurbelicusTurned

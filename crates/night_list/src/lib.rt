@@ -1,6 +1,6 @@
 // The night list: entries worked where they stand.
 
-use place::night_of;
+use night::night_of;
 use place::place_in;
 use rules::Entry;
 use rules::Listed;

@@ -18,9 +18,9 @@ pub fn readings(v: Direction, w: Direction) -> Place
 {
     Place {
         ra: read(v.x, v.y),
-        declination: circle::height(v),
+        declination: reading::height(v),
         azimuth: read(-w.x, w.y),
-        altitude: circle::height(w),
+        altitude: reading::height(w),
     }
 }
 
@@ -29,5 +29,5 @@ fn read(h: i64, v: i64) -> i64
     requires { ⌜ PartsFit h v ⌝ }
     ensures { λ r. ⌜ r ≡ reading.reading h v ⌝ }
 {
-    circle::reading(h as i32, v as i32)
+    reading::reading(h as i32, v as i32)
 }

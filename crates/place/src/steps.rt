@@ -61,7 +61,7 @@ fn aberrated(n: Night, v: Direction) -> Direction
     ensures { λ r. ⌜ r ≡ rule.aberrated n v ⌝ }
 {
     let a = n.aberration;
-    turning::brought(sum(v, a))
+    length::brought(sum(v, a))
 }
 
 // Part by part, without a return to length.

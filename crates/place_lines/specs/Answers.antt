@@ -12,15 +12,14 @@ use Rattle.rules.specs.declared.Prepared.{Prepared}
 use Rattle.rules.specs.declared.Listed.{Listed}
 use Rattle.rules.specs.declared.Starred.{Starred}
 use Rattle.rules.specs.Refusals.{number}
-use Rattle.rules.specs.Lines.{space}
 use Rattle.rules.specs.Times.{decimal, refusedLine}
 use Rattle.rules.specs.Night.{nightOf}
 use Rattle.rules.specs.StarList.{freshEntry, listCount, listStar}
 use Rattle.rules.specs.NightList.{worked}
-use Rattle.place_lines.specs.declared.Asked.{Asked}
+use Rattle.asking.specs.declared.Asked.{Asked}
 use Rattle.place_lines.specs.declared.Begun.{Begun}
-use Rattle.place_lines.specs.Asking.{askedOf}
-use Rattle.place_lines.specs.Sexagesimal.{hours, bearing, elevation}
+use Rattle.asking.specs.Asking.{askedOf}
+use Rattle.sexagesimal.specs.Sexagesimal.{spaced, hours, bearing, elevation}
 
 -- ---- a file and a line
 
@@ -41,10 +40,6 @@ unfoldable pub begun : List ℕ → List ℕ → Begun
 begun file line = begunOf (listCount file) (askedOf line)
 
 -- ---- a line of the answer
-
--- a space, then bytes
-abbrev pub spaced : List ℕ → List ℕ
-spaced bytes = space ∷ bytes
 
 -- four angles in µas
 unfoldable pub plainAngles : Place → List ℕ

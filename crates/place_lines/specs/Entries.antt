@@ -22,9 +22,9 @@ use Rattle.laws.specs.Ranges.{true-not-false}
 use Rattle.laws.specs.Instants.{tt-within}
 use Rattle.laws.specs.Night.{NightFits, night-fits}
 use Rattle.laws.specs.StarList.{accepted-few}
-use Rattle.place_lines.specs.declared.Asked.{Asked}
+use Rattle.asking.specs.declared.Asked.{Asked}
 use Rattle.place_lines.specs.declared.Begun.{Begun}
-use Rattle.place_lines.specs.Asking.{askedOf}
+use Rattle.asking.specs.Asking.{askedOf}
 use Rattle.place_lines.specs.Answers.{begunIn, begunFor, begunOf, begun}
 
 found : (b : Bool) (t s : Star) → cond b (Starred.Of t) (Starred.Refused Refusal.Room) ≡ Starred.Of s → b ≡ true

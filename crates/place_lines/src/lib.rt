@@ -6,28 +6,19 @@ ghost use lib.ListN.{length};
 ghost use lib.Seq.{sets};
 ghost use Rattle.laws.specs.Night.{NightFits};
 ghost use Rattle.place_lines.specs.Answers as rule;
-use crate::asking::asked_of;
 use crate::printing::put_entry;
 use crate::printing::worked;
+use asking::Asked;
+use asking::asked_of;
 use lines::printing::put_refused;
 use rules::Listed;
-use rules::Moment;
 use rules::Night;
 use rules::Prepared;
-use rules::Site;
 use rules::Starred;
 use star_file::reading::list_count;
 use star_file::reading::list_star;
 
-mod asking;
 mod printing;
-mod sexagesimal;
-
-// A line of `places`.
-pub enum Asked {
-    For(Moment, Site),
-    Other,
-}
 
 // What a file and a line come to: how many entries there are and their night, or the number of the
 // refusal, 0 for a line of another form.
@@ -57,7 +48,7 @@ fn begin_for(count: usize, asked: Asked) -> Begun
     ensures { λ r. ⌜ r ≡ rule.begunFor count asked ⌝ }
 {
     match asked {
-        Asked::For(moment, site) => begin_in(count, place::night_of(moment, site)),
+        Asked::For(moment, site) => begin_in(count, night::night_of(moment, site)),
         Asked::Other => Begun::Refused(0),
     }
 }

@@ -9,14 +9,15 @@ ghost use Rattle.rules.specs.StarList.{freshEntry};
 ghost use Rattle.rules.specs.NightList as nights;
 ghost use Rattle.laws.specs.Night.{NightFits};
 ghost use Rattle.place_lines.specs.Answers as rule;
-use crate::sexagesimal::put_bearing;
-use crate::sexagesimal::put_elevation;
-use crate::sexagesimal::put_hours;
-use lines::decimals::put;
+ghost use Rattle.sexagesimal.specs.Sexagesimal.{spaced};
+use decimals::put;
 use rules::Entry;
 use rules::Night;
 use rules::Place;
 use rules::Star;
+use sexagesimal::put_bearing;
+use sexagesimal::put_elevation;
+use sexagesimal::put_hours;
 use stars::star_refused;
 
 // A star of a night as an entry.
@@ -46,8 +47,8 @@ pub fn worked(night: Night, star: Star) -> Entry
 // A space and a number.
 pub fn put_spaced(n: i64, at: usize, out: &mut [u8]) -> usize
     requires { ⌜ at + 21 ≤ length (now out) ⌝ }
-    ensures { λ r. ⌜ r ≡ at + length (rule.spaced (decimal n)) ⌝ }
-    ensures { λ _. ⌜ now (out .exit) ≡ sets (now (out .entry)) at (rule.spaced (decimal n)) ⌝ }
+    ensures { λ r. ⌜ r ≡ at + length (spaced (decimal n)) ⌝ }
+    ensures { λ _. ⌜ now (out .exit) ≡ sets (now (out .entry)) at (spaced (decimal n)) ⌝ }
 {
     out[at] = 32;
     put(n, at + 1, out)

@@ -1,4 +1,2 @@
 -- What the contracts of inner functions cite beside the rules.
 pub mod Plans
-pub mod Puts
-pub mod Records

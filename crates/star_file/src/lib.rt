@@ -3,9 +3,7 @@
 use rules::Listed;
 ghost use mathlib.Core.Path.{_≡_};
 
-pub mod numbers;
 pub mod reading;
-pub mod writing;
 
 // What the checks of a list came to: its answer, and how many records are to be worked.
 pub struct Plan {

@@ -1,14 +1,14 @@
 // A list file read: its count, a star by its index, an entry.
 
 use crate::Plan;
-use crate::numbers::number_at;
-use crate::numbers::two_bytes_at;
 use rules::Entry;
 use rules::Listed;
 use rules::Place;
 use rules::Refusal;
 use rules::Star;
 use rules::Starred;
+use star_bytes::number_at;
+use star_bytes::two_bytes_at;
 use stars::star_refused;
 ghost use mathlib.Core.Path.{_≡_};
 ghost use lib.ListN.{length, drop};

@@ -17,9 +17,10 @@ use Rattle.laws.specs.Records.{acceptedIn, accepted-le, accepted-snoc, any-coun
 use Rattle.laws.specs.FileLength.{records, record-length, records-length, headOf, starsOf-length}
 use Rattle.laws.specs.ListWriting.{write-accepted}
 use Rattle.star_file.specs.declared.Plan.{Plan}
-use Rattle.star_file.specs.Plans.{planOf, writePlan, Ready}
-use Rattle.star_file.specs.Puts.{put, put-length, put-none, put-put}
-use Rattle.star_file.specs.Records.{file-put}
+use Rattle.star_file.specs.Plans.{planOf}
+use Rattle.star_writing.specs.Plans.{writePlan, Ready}
+use Rattle.star_bytes.specs.Puts.{put, put-length, put-none, put-put}
+use Rattle.star_writing.specs.Records.{file-put}
 use Rattle.star_list.proofs.Lists.{snoc-length}
 
 -- how many of the entries have a star that is accepted

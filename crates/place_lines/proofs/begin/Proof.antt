@@ -4,7 +4,7 @@ use mir.Syntax.{w64}
 use mir.Facts.{toZ-ofZ}
 use borrow.Author.Needs.{needs, sfits-of}
 use Rattle.place_lines.specs.declared.Begun.{Begun}
-use Rattle.place_lines.specs.Asking.{askedOf}
+use Rattle.asking.specs.Asking.{askedOf}
 use Rattle.place_lines.specs.Answers.{begunFor, begunOf, begun}
 use Rattle.place_lines.proofs.begin.Statement.{statement}
 use Rattle.place_lines.proofs.begin.Tie as tie

@@ -7,7 +7,7 @@ use Rattle.rules.specs.declared.Direction.{Direction}
 use Rattle.rules.specs.Length.{toLength}
 use Rattle.rules.specs.Turning.{turnAbout, turnBy}
 use Rattle.laws.specs.Turning.{turnAbout-fits, turnAbout-root-pos}
-use Rattle.turning.specs.Given.{NotNought}
+use Rattle.length.specs.Given.{NotNought}
 use Rattle.turning.proofs.turn_by.Statement.{statement}
 use Rattle.turning.proofs.turn_by.Tie as tie
 

@@ -3,7 +3,7 @@ use Prim.Native.Nat.{ℕ, _+_, _*_, _≤_}
 use mathlib.Core.Path.{_≡_}
 use native.Mathlib.Omega.{arith}
 use native.Mathlib.Nat.{mul-le-mul}
-use lib.Dec.{le→leb}
+use lib.Dec.{le→leb, lt→ltb}
 use lib.IntN.{ℤ, pos, natAbs, _+ℤ_, _*ℤ_}
 use Rattle.integers.specs.Size.{square-abs}
 use Rattle.rules.specs.Units.{unit}
@@ -11,9 +11,8 @@ use Rattle.rules.specs.declared.Pair.{Pair}
 use Rattle.rules.specs.Length.{root, square, pairSquares, partTo, pairToLength}
 use Rattle.laws.specs.Root.{root-root, root-le}
 use Rattle.laws.specs.Length.{le-root, partTo-le}
-use Rattle.laws.specs.Near.{upTo-pos}
 use Rattle.words.specs.Holds.{Holds, bits, _+ʷ_, _*ʷ_, arg, got, add, add-ok, mul, mul-ok}
-use Rattle.circle.specs.Given.{PartGiven}
+use Rattle.length.specs.Given.{PartFits}
 use Rattle.circle.proofs.parts.pair_to_length.Statement.{statement}
 use Rattle.circle.proofs.parts.pair_to_length.Tie as tie
 
@@ -65,11 +64,11 @@ unfolding pairSquares square
 sine-le-length c = le-root (natAbs (c .args .s)) (pairSquares (given c)) (length c) (omega arith)
     (root-root (pairSquares (given c)) (omega (arith, squares-le c)))
 
-part-given : (c : tie.Start) (z : ℤ) → natAbs z ≤ length c → PartGiven (pos (length c)) z
-part-given c z h = record {
-  length-pos = c .pre .length-pos;
-  length-range = upTo-pos (length c) (2 * unit) (length-le c);
-  part-le = h;
+part-fits : (c : tie.Start) (z : ℤ) → natAbs z ≤ length c → PartFits z (pos (length c))
+part-fits c z h = record {
+  part-le = omega (arith, h, length-le c);
+  length-pos = record { lt = lt→ltb 0 (length c) (c .pre .length-pos) };
+  length-le = omega (arith, length-le c);
 }
 
 cosine-holds : (c : tie.After-part-to)
@@ -105,12 +104,12 @@ whole-root-requires c κs =
 part-to-requires : tie.Need-part-to-requires
 part-to-requires c κs =
     let b = c .before in
-    rw (length-holds c .value, c-holds b .value) (part-given b (b .args .c) (cosine-le-length b))
+    rw (length-holds c .value, c-holds b .value) (part-fits b (b .args .c) (cosine-le-length b))
 
 part-to-requires-2 : tie.Need-part-to-requires-2
 part-to-requires-2 c κs =
     let b = c .before .before in
-    rw (length-holds (c .before) .value, s-holds b .value) (part-given b (b .args .s) (sine-le-length b))
+    rw (length-holds (c .before) .value, s-holds b .value) (part-fits b (b .args .s) (sine-le-length b))
 
 returns : tie.Need-returns
 unfolding pairToLength

@@ -4,7 +4,7 @@ use borrow.Author.Needs.{needs}
 use mir.Syntax.{w64}
 use mir.Val.{toZ, ofZ}
 use Rattle.rules.specs.Polynomials.{arguments}
-use Rattle.earth.proofs.Held.{instant-held}
+use Rattle.polynomials.proofs.Held.{instant-held}
 use Rattle.earth.proofs.arguments.sun_of.Statement.{statement}
 use Rattle.earth.proofs.arguments.sun_of.Tie as tie
 

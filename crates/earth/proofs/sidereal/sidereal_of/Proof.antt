@@ -13,7 +13,7 @@ use Rattle.rules.specs.Sidereal.{siderealRow, siderealPolynomial, sidereal}
 use Rattle.laws.specs.Modulo.{modulo-lt}
 use Rattle.laws.specs.Polynomials.{sizes, polynomial-le}
 use Rattle.words.specs.Holds.{Holds, bits, _*ʷ_, got, lit, add, add-ok, mul, mul-ok}
-use Rattle.earth.proofs.Held.{instant-held}
+use Rattle.polynomials.proofs.Held.{instant-held}
 use Rattle.earth.proofs.sidereal.sidereal_of.Statement.{statement}
 use Rattle.earth.proofs.sidereal.sidereal_of.Tie as tie
 

@@ -11,8 +11,9 @@ use mir.Val.{toZ}
 use borrow.Author.Needs.{needs}
 use Rattle.words.specs.Holds.{nat}
 use Rattle.rules.specs.Times.{decimal}
-use Rattle.place_lines.specs.Answers.{spaced, plainAngles, peopleAngles, entryLine}
-use Rattle.place_lines.specs.Rows.{Put, none-put, more, put-length}
+use Rattle.place_lines.specs.Answers.{plainAngles, peopleAngles, entryLine}
+use Rattle.sexagesimal.specs.Sexagesimal.{spaced}
+use Rattle.sexagesimal.specs.Rows.{Put, none-put, more, put-length}
 use Rattle.place_lines.specs.Lengths.{number-le}
 use Rattle.place_lines.proofs.printing.put_entry.Statement.{statement}
 use Rattle.place_lines.proofs.printing.put_entry.Tie as tie

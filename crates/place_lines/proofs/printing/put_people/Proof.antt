@@ -11,10 +11,11 @@ use mir.Val.{SFits}
 use mir.Facts.{toZ-ofZ}
 use borrow.Author.Needs.{needs, sfits-of}
 use Rattle.rules.specs.declared.Place.{Place}
-use Rattle.place_lines.specs.Answers.{spaced, peopleAngles}
-use Rattle.place_lines.specs.Rows.{Put, none-put, more, put-length}
-use Rattle.place_lines.specs.Lengths.{hours-length, bearing-length, elevation-length}
-use Rattle.place_lines.specs.Sexagesimal.{hours, bearing, elevation}
+use Rattle.place_lines.specs.Answers.{peopleAngles}
+use Rattle.sexagesimal.specs.Sexagesimal.{spaced}
+use Rattle.sexagesimal.specs.Rows.{Put, none-put, more, put-length}
+use Rattle.sexagesimal.specs.Widths.{hours-length, bearing-length, elevation-length}
+use Rattle.sexagesimal.specs.Sexagesimal.{hours, bearing, elevation}
 use Rattle.place_lines.proofs.printing.put_people.Statement.{statement}
 use Rattle.place_lines.proofs.printing.put_people.Tie as tie
 

@@ -13,8 +13,9 @@ use borrow.Author.Needs.{needs, sfits-of}
 use Rattle.words.specs.Fits.{size64}
 use Rattle.rules.specs.declared.Place.{Place}
 use Rattle.rules.specs.Times.{decimal}
-use Rattle.place_lines.specs.Answers.{spaced, plainAngles}
-use Rattle.place_lines.specs.Rows.{Put, none-put, more, put-length}
+use Rattle.place_lines.specs.Answers.{plainAngles}
+use Rattle.sexagesimal.specs.Sexagesimal.{spaced}
+use Rattle.sexagesimal.specs.Rows.{Put, none-put, more, put-length}
 use Rattle.place_lines.specs.Lengths.{number-le}
 use Rattle.place_lines.proofs.printing.put_plain.Statement.{statement}
 use Rattle.place_lines.proofs.printing.put_plain.Tie as tie

@@ -9,7 +9,7 @@ use lib.Seq.{sets, length-sets}
 use mir.Facts.{toZ-ofZ}
 use borrow.Author.Needs.{needs}
 use Rattle.rules.specs.Times.{decimal}
-use Rattle.place_lines.specs.Answers.{spaced}
+use Rattle.sexagesimal.specs.Sexagesimal.{spaced}
 use Rattle.place_lines.proofs.printing.put_spaced.Statement.{statement}
 use Rattle.place_lines.proofs.printing.put_spaced.Tie as tie
 

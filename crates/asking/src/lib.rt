@@ -1,0 +1,71 @@
+// The line that `places` reads.
+ghost use mathlib.Core.Path.{_≡_};
+ghost use Rattle.asking.specs.Asking as rule;
+use fields::line_of;
+use fields::of_number;
+use fields::signed;
+use rules::Line;
+use rules::Moment;
+use rules::Site;
+
+// A line of `places`.
+pub enum Asked {
+    For(Moment, Site),
+    Other,
+}
+
+// How many bytes come before the first space.
+pub fn word_length(s: &[u8]) -> usize
+    ensures { λ r. ⌜ r ≡ rule.wordLength (now (s .entry)) ⌝ }
+{
+    let mut i: usize = 0;
+    while i < s.len() {
+        if s[i] == 32 {
+            return i;
+        }
+        i += 1;
+    }
+    i
+}
+
+// A moment with the site that follows.
+pub fn with_site(moment: Moment, s: &[u8]) -> Asked
+    ensures { λ r. ⌜ r ≡ rule.withSite moment (now (s .entry)) ⌝ }
+{
+    let n = word_length(s);
+    if s.len() <= n {
+        return Asked::Other;
+    }
+    let next = n + 1;
+    if !of_number(&s[..n], 12) {
+        return Asked::Other;
+    }
+    if !of_number(&s[next..], 12) {
+        return Asked::Other;
+    }
+    Asked::For(
+        moment,
+        Site {
+            latitude: signed(&s[..n]),
+            longitude: signed(&s[next..]),
+        },
+    )
+}
+
+// A line without its end.
+pub fn asked_of(line: &[u8]) -> Asked
+    ensures { λ r. ⌜ r ≡ rule.askedOf (now (line .entry)) ⌝ }
+{
+    if line.len() < 24 {
+        return Asked::Other;
+    }
+    let end = 24 + word_length(&line[24..]);
+    if line.len() <= end {
+        return Asked::Other;
+    }
+    let next = end + 1;
+    match line_of(&line[..end]) {
+        Line::Of(moment) => with_site(moment, &line[next..]),
+        Line::Other => Asked::Other,
+    }
+}

@@ -1,3 +1,0 @@
--- What the proofs of `earth` share.
-pub mod Held
-pub mod Table

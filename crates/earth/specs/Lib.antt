@@ -1,4 +1,0 @@
--- What the clauses of `earth` cite.
-pub mod Fits
-pub mod Terms
-pub mod TermFits

@@ -1,0 +1,22 @@
+-- `inner::dates::inner_date_of` meets its contract.
+use mathlib.Core.Path.{ap, _∙_}
+use borrow.Author.Needs.{needs}
+use mir.Facts.{toZ-ofZ}
+use Rattle.rules.specs.Refusals.{datedAnswer}
+use Rattle.inner_dates.specs.Dates.{innerDate}
+use Rattle.inner_dates.proofs.inner_date_of.Statement.{statement}
+use Rattle.inner_dates.proofs.inner_date_of.Tie as tie
+
+date-of-requires : tie.Need-date-of-requires
+date-of-requires c κs = search needs
+
+date-out-requires : tie.Need-date-out-requires
+date-out-requires c κs = search needs
+
+returns : tie.Need-returns
+returns c =
+    c .date-out .ensures
+    ∙ ap (λ a. innerDate (datedAnswer a)) (rw (toZ-ofZ (c .before .before .fits .day)) at (c .before .date-of .ensures))
+
+pub inner-date-of-spec : {M : Type 1} → statement M
+inner-date-of-spec = tie.close (tie.spec date-of-requires date-out-requires returns)

@@ -1,0 +1,24 @@
+-- `inner::dates::inner_day_of` meets its contract.
+use mathlib.Core.Path.{ap, _∙_}
+use borrow.Author.Needs.{needs}
+use mir.Facts.{toZ-ofZ}
+use Rattle.rules.specs.Refusals.{numberedAnswer}
+use Rattle.inner_dates.specs.Dates.{innerDay}
+use Rattle.inner_dates.proofs.inner_day_of.Statement.{statement}
+use Rattle.inner_dates.proofs.inner_day_of.Tie as tie
+
+day-of-requires : tie.Need-day-of-requires
+day-of-requires c κs = search needs
+
+day-out-requires : tie.Need-day-out-requires
+day-out-requires c κs = search needs
+
+returns : tie.Need-returns
+returns c =
+    let f = c .before .before .fits in
+    c .day-out .ensures
+    ∙ ap (λ a. innerDay (numberedAnswer a))
+    (rw (toZ-ofZ (f .year), toZ-ofZ (f .month), toZ-ofZ (f .day)) at (c .before .day-of .ensures))
+
+pub inner-day-of-spec : {M : Type 1} → statement M
+inner-day-of-spec = tie.close (tie.spec day-of-requires day-out-requires returns)

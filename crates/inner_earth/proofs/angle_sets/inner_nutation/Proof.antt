@@ -1,0 +1,23 @@
+-- `inner::angle_sets::inner_nutation` meets its contract.
+use mathlib.Core.Path.{ap, _∙_}
+use borrow.Author.Needs.{needs}
+use mir.Facts.{toZ-ofZ}
+use Rattle.rules.specs.Refusals.{nutatedAnswer}
+use Rattle.inner_earth.specs.Angles.{innerNutated}
+use Rattle.inner_earth.proofs.angle_sets.inner_nutation.Statement.{statement}
+use Rattle.inner_earth.proofs.angle_sets.inner_nutation.Tie as tie
+
+nutation-requires : tie.Need-nutation-requires
+nutation-requires c κs = search needs
+
+nutated-out-requires : tie.Need-nutated-out-requires
+nutated-out-requires c κs = search needs
+
+returns : tie.Need-returns
+returns c =
+    c .nutated-out .ensures
+    ∙ ap (λ a. innerNutated (nutatedAnswer a))
+    (rw (toZ-ofZ (c .before .before .fits .tt)) at (c .before .nutation .ensures))
+
+pub inner-nutation-spec : {M : Type 1} → statement M
+inner-nutation-spec = tie.close (tie.spec nutation-requires nutated-out-requires returns)

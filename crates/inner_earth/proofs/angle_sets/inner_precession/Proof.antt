@@ -1,0 +1,23 @@
+-- `inner::angle_sets::inner_precession` meets its contract.
+use mathlib.Core.Path.{ap, _∙_}
+use borrow.Author.Needs.{needs}
+use mir.Facts.{toZ-ofZ}
+use Rattle.rules.specs.Refusals.{precessedAnswer}
+use Rattle.inner_earth.specs.Angles.{innerPrecessed}
+use Rattle.inner_earth.proofs.angle_sets.inner_precession.Statement.{statement}
+use Rattle.inner_earth.proofs.angle_sets.inner_precession.Tie as tie
+
+precession-requires : tie.Need-precession-requires
+precession-requires c κs = search needs
+
+precessed-out-requires : tie.Need-precessed-out-requires
+precessed-out-requires c κs = search needs
+
+returns : tie.Need-returns
+returns c =
+    c .precessed-out .ensures
+    ∙ ap (λ a. innerPrecessed (precessedAnswer a))
+    (rw (toZ-ofZ (c .before .before .fits .tt)) at (c .before .precession .ensures))
+
+pub inner-precession-spec : {M : Type 1} → statement M
+inner-precession-spec = tie.close (tie.spec precession-requires precessed-out-requires returns)

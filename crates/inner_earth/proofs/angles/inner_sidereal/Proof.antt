@@ -1,0 +1,23 @@
+-- `inner::angles::inner_sidereal` meets its contract.
+use mathlib.Core.Path.{ap, _∙_}
+use borrow.Author.Needs.{needs}
+use mir.Facts.{toZ-ofZ}
+use Rattle.rules.specs.Refusals.{angleAnswer}
+use Rattle.inner_earth.specs.Angles.{innerAngle}
+use Rattle.inner_earth.proofs.angles.inner_sidereal.Statement.{statement}
+use Rattle.inner_earth.proofs.angles.inner_sidereal.Tie as tie
+
+sidereal-requires : tie.Need-sidereal-requires
+sidereal-requires c κs = search needs
+
+angle-out-requires : tie.Need-angle-out-requires
+angle-out-requires c κs = search needs
+
+returns : tie.Need-returns
+returns c =
+    c .angle-out .ensures
+    ∙ ap (λ a. innerAngle (angleAnswer a))
+    (rw (toZ-ofZ (c .before .before .fits .ut)) at (c .before .sidereal .ensures))
+
+pub inner-sidereal-spec : {M : Type 1} → statement M
+inner-sidereal-spec = tie.close (tie.spec sidereal-requires angle-out-requires returns)

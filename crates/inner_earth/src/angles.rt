@@ -1,0 +1,58 @@
+// An angle of an instant, of the crate `earth`.
+
+use rules::Angle;
+use rules::Tt;
+use rules::Ut;
+ghost use mathlib.Core.Path.{_≡_};
+ghost use lib.IntN.{ℤ};
+ghost use Rattle.rules.specs.Refusals.{angleAnswer};
+ghost use Rattle.rules.specs.Polynomials.{obliquityAt};
+ghost use Rattle.rules.specs.Sun.{sunLongitudeAt};
+ghost use Rattle.rules.specs.Sidereal.{siderealAt};
+ghost use Rattle.inner_earth.specs.Angles.{inTt, inUt, innerAngle};
+
+// The refusal's number and noughts, or 0 and the angle.
+#[repr(C)]
+pub struct InnerAngle {
+    pub refused: i64,
+    pub angle: i64,
+}
+
+// The mean obliquity at a TT instant.
+#[no_mangle]
+pub extern "C" fn inner_obliquity(tt: i64) -> InnerAngle
+    ensures { λ r. ⌜ r ≡ innerAngle (angleAnswer (obliquityAt (inTt tt))) ⌝ }
+{
+    angle_out(earth::precession::obliquity(Tt(tt)))
+}
+
+// The Sun's longitude at a TT instant.
+#[no_mangle]
+pub extern "C" fn inner_sun(tt: i64) -> InnerAngle
+    ensures { λ r. ⌜ r ≡ innerAngle (angleAnswer (sunLongitudeAt (inTt tt))) ⌝ }
+{
+    angle_out(sun::sun_longitude(Tt(tt)))
+}
+
+// The sidereal angle at a UT instant.
+#[no_mangle]
+pub extern "C" fn inner_sidereal(ut: i64) -> InnerAngle
+    ensures { λ r. ⌜ r ≡ innerAngle (angleAnswer (siderealAt (inUt ut))) ⌝ }
+{
+    angle_out(earth::sidereal::sidereal(Ut(ut)))
+}
+
+fn angle_out(a: Angle) -> InnerAngle
+    ensures { λ r. ⌜ r ≡ innerAngle (angleAnswer a) ⌝ }
+{
+    match a {
+        Angle::Of(angle) => InnerAngle {
+            refused: 0,
+            angle: angle,
+        },
+        Angle::Refused(r) => InnerAngle {
+            refused: refusals::number(r),
+            angle: 0,
+        },
+    }
+}

@@ -1,0 +1,46 @@
+// The two instants of a UTC date, document 01, "Dates".
+ghost use mathlib.Core.Path.{_≡_};
+ghost use Rattle.rules.specs.Dates as rule;
+use crate::seconds::instants_at;
+use crate::seconds::ms_of_day;
+use crate::seconds::time_refused;
+use calendar::dates::day_number;
+use calendar::dates::day_refused;
+use rules::Instants;
+use rules::Moment;
+use rules::Refusal;
+use whole::is_between;
+
+mod seconds;
+
+// The two instants of a UTC date with its time of day and UT1-UTC.
+//
+// Given: any numbers.
+// Returned: UT and TT, ms from J2000.0; or refusal 1, 2, 3 or 4.
+// Rule: 01, "Dates". UT1-UTC is in UT alone.
+pub fn instants(moment: Moment) -> Instants
+    ensures { λ r. ⌜ r ≡ rule.instants moment ⌝ }
+{
+    let year = moment.date.year as i64;
+    let month = moment.date.month as i64;
+    let day = moment.date.day as i64;
+    let hour = moment.time.hour as i64;
+    let minute = moment.time.minute as i64;
+    let second = moment.time.second as i64;
+    let ms = moment.time.ms as i64;
+    let difference = moment.difference as i64;
+    if !is_between(1972, 2099, year) {
+        return Instants::Refused(Refusal::Year);
+    }
+    if day_refused(year, month, day) {
+        return Instants::Refused(Refusal::Day);
+    }
+    let n = day_number(year, month, day);
+    if time_refused(n, hour, minute, second, ms) {
+        return Instants::Refused(Refusal::Time);
+    }
+    if !is_between(-900, 900, difference) {
+        return Instants::Refused(Refusal::Difference);
+    }
+    instants_at(n, ms_of_day(hour, minute, second, ms), difference)
+}

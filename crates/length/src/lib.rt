@@ -1,0 +1,108 @@
+// The length of a direction: whether it is accepted, and bringing to length.
+
+use rules::Direction;
+use rules::Refusal;
+use rules::Turned;
+ghost use mathlib.Core.Path.{_≡_};
+ghost use mathlib.Core.Bool.{not};
+ghost use Prim.Native.Nat.{_<_, _^_};
+ghost use lib.IntN.{pos, natAbs};
+ghost use Rattle.rules.specs.Length.{squares, partTo, root, toLength, broughtToLength};
+ghost use Rattle.rules.specs.Turning.{directionRefused};
+ghost use Rattle.length.specs.Given.{PartFits, HasLength, NotNought};
+
+// 2^30: the length of a direction.
+const UNIT: i64 = 1073741824;
+
+// No part of an accepted direction is larger: the square of 2^30 + 2 is above 2^60 + 2^32.
+const REACH: i64 = 1073741825;
+
+// 2^60 - 2^32 and 2^60 + 2^32: the ends of what is accepted.
+const LEAST: i64 = 1152921500311879680;
+
+const MOST: i64 = 1152921508901814272;
+
+// The squares' sum.
+pub fn squares_sum(v: Direction) -> i64
+    requires { ⌜ squares v < 2 ^ 63 ⌝ }
+    ensures { λ r. ⌜ r ≡ pos (squares v) ⌝ }
+{
+    v.x * v.x + v.y * v.y + v.z * v.z
+}
+
+// L: the whole root of the squares' sum.
+pub fn length_of(v: Direction) -> i64
+    requires { ⌜ squares v < 2 ^ 63 ⌝ }
+    ensures { λ r. ⌜ r ≡ pos (root (squares v)) ⌝ }
+{
+    whole::whole_root(squares_sum(v))
+}
+
+// Each part becomes Rnd(part * 2^30 / L).
+pub fn parts_to(v: Direction, l: i64) -> Direction
+    requires { ⌜ HasLength v l ⌝ }
+    ensures { λ r. ⌜ r ≡ toLength v ⌝ }
+{
+    Direction {
+        x: part_to(v.x, l),
+        y: part_to(v.y, l),
+        z: part_to(v.z, l),
+    }
+}
+
+// Rnd(part * 2^30 / L).
+pub fn part_to(part: i64, l: i64) -> i64
+    requires { ⌜ PartFits part l ⌝ }
+    ensures { λ r. ⌜ r ≡ partTo (natAbs l) part ⌝ }
+{
+    whole::rnd_quotient(part * UNIT, l)
+}
+
+// Whether v is accepted: its squared length is within 2^32 of 2^60, both ends included.
+//
+// Given: v, any three numbers.
+// Rule: 01, "Numbers, angles, instants"; refusal 7.
+//
+// The parts are tested first, so that no square passes the word.
+pub fn accepted(v: Direction) -> bool
+    ensures { λ r. ⌜ r ≡ not (directionRefused v) ⌝ }
+{
+    if !whole::is_between(-REACH, REACH, v.x) {
+        return false;
+    }
+    if !whole::is_between(-REACH, REACH, v.y) {
+        return false;
+    }
+    if !whole::is_between(-REACH, REACH, v.z) {
+        return false;
+    }
+    whole::is_between(LEAST, MOST, squares_sum(v))
+}
+
+// v brought to the length 2^30.
+//
+// Given: v, whose squares' sum is below 2^63.
+// Returned: Rnd(part * 2^30 / L) of each, L the whole root of the sum; refused 13 if L is nought.
+// Rule: 01, "The three are then brought to length".
+pub fn to_length(v: Direction) -> Turned
+    requires { ⌜ squares v < 2 ^ 63 ⌝ }
+    ensures { λ r. ⌜ r ≡ broughtToLength v ⌝ }
+{
+    let l = length_of(v);
+    if l == 0 {
+        return Turned::Refused(Refusal::Length);
+    }
+    Turned::To(parts_to(v, l))
+}
+
+// v brought to the length 2^30, where it is known not to be nought.
+//
+// Given: v, whose squares' sum is from 1 to 2^63 - 1.
+// Returned: Rnd(part * 2^30 / L) of each, L the whole root of the sum.
+// Rule: 01, "The three are then brought to length".
+pub fn brought(v: Direction) -> Direction
+    requires { ⌜ NotNought v ⌝ }
+    ensures { λ r. ⌜ r ≡ toLength v ⌝ }
+{
+    parts_to(v, length_of(v))
+}

@@ -1,0 +1,2 @@
+-- What the proofs share, of every function of an instant.
+pub mod Held

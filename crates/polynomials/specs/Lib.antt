@@ -1,0 +1,2 @@
+-- What the clauses of `polynomials` cite.
+pub mod Fits

@@ -1,0 +1,2 @@
+-- What the private functions ask of their numbers.
+pub mod Given

@@ -1,0 +1,3 @@
+-- What the contracts of inner functions cite beside the rules.
+pub mod Plans
+pub mod Records
