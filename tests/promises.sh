@@ -1,6 +1,6 @@
 #!/usr/bin/env bash
-# Holds every name of docs/PROMISES.md to the files: definitions, functions, theorems, edits and tests; and every public
-# function to its theorem that no second answer fits.
+# Holds every name of docs/PROMISES.md to the files: definitions, functions, theorems, edits and tests; every public
+# function to its theorem that no second answer fits; and every one with a `requires` to the page.
 set -uo pipefail
 cd "$(dirname "${BASH_SOURCE[0]}")/.." || exit 2
 
@@ -57,7 +57,14 @@ public() { # public FILE
     sed -nE 's/^pub (extern "C" )?fn ([a-z0-9_]+)\(.*/\2/p' "$1"
 }
 
-# every public function of a library has its theorem in promises
+# and those of them that ask something of their caller
+asking() { # asking FILE
+    awk 'match($0, /^pub (extern "C" )?fn [a-z0-9_]+/) { name = substr($0, 1, RLENGTH); sub(/.* /, "", name) }
+        /^    requires/ && name != "" { print name; name = "" }
+        /^\{/ { name = "" }' "$1"
+}
+
+# every public function of a library has its theorem in promises, and what C calls another: it asks nothing
 alone=0
 for library in crates/*/src/lib.rt; do
     crate=${library#crates/} crate=${crate%%/*}
@@ -71,6 +78,12 @@ for library in crates/*/src/lib.rt; do
                 printf 'no theorem that no second answer fits: %s\n' "$crate::${module:+$module::}$name"
                 missing=$((missing + 1))
             fi
+            [ "$crate" != module ] || declared crates/promises/specs/Demand1/Asks.antt "${name//_/-}-asks-nothing" \
+                || { printf 'no theorem that it asks nothing: %s\n' "$name"; missing=$((missing + 1)); }
+        done
+        for name in $(asking "crates/$crate/src/${module:-lib}.rt"); do
+            grep -q "^[^|]*\`$crate::${module:+$module::}$name\`" $page \
+                || { printf 'asks something, and is not on the page: %s\n' "$crate::${module:+$module::}$name"; missing=$((missing + 1)); }
         done
     done
 done

@@ -1,4 +1,4 @@
--- Demand 1 of dates and instants: `calendar::day_of` 1, 2; `calendar::date_of` 1; `calendar::instants` 1, 2, 3, 4.
+-- Demand 1 of dates and instants: `calendar::day_of` 1, 2; `calendar::date_of` 1; `instants::instants` 1, 2, 3, 4.
 use mathlib.Core.Path.{_≡_, refl, ap, _∙_}
 use mathlib.Core.Logic.{_↔_}
 use mathlib.Core.List.{[], _∷_}

@@ -1,5 +1,5 @@
--- Demand 1 of the list file: `star_file::list_count` 9, 10, 5; `star_file::list_star` and `star_list::read_list` then
--- 11.
+-- Demand 1 of the list file: `star_file::reading::list_count` 9, 10, 5; `star_file::reading::list_star` and
+-- `star_list::read_list` then 11.
 use mathlib.Core.Path.{_≡_, refl, ap, _∙_}
 use mathlib.Core.Logic.{_↔_}
 use mathlib.Core.Bool.{Bool, true, false, not, cond}

@@ -1,4 +1,4 @@
--- Demand 1 of places: `place::place` 1 to 4, 5, 6; `place::night_of` 1 to 4, 6.
+-- Demand 1 of places: `place::place` 1 to 4, 5, 6; `night::night_of` 1 to 4, 6.
 use mathlib.Core.Path.{_≡_, refl, ap, _∙_}
 use mathlib.Core.Logic.{_↔_}
 use mathlib.Core.List.{List, [], _∷_, _++_}

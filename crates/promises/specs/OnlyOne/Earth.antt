@@ -10,16 +10,12 @@ use Rattle.promises.specs.Contracts.{OneAnswer, one}
 use Rattle.earth.proofs.arguments.arguments_of as arguments-of
 use Rattle.earth.proofs.arguments.sun_of as sun-of
 use Rattle.earth.proofs.arguments.arguments as arguments
-use Rattle.earth.proofs.nutation.nutation_of as nutation-of
-use Rattle.earth.proofs.nutation.nutation as nutation
 use Rattle.earth.proofs.precession.precession_of as precession-of
 use Rattle.earth.proofs.precession.precession as precession
 use Rattle.earth.proofs.precession.obliquity_of as obliquity-of
 use Rattle.earth.proofs.precession.obliquity as obliquity
 use Rattle.earth.proofs.sidereal.sidereal_of as sidereal-of
 use Rattle.earth.proofs.sidereal.sidereal as sidereal
-use Rattle.earth.proofs.sun.sun_longitude_of as sun-longitude-of
-use Rattle.earth.proofs.sun.sun_longitude as sun-longitude
 
 module _ {M : Type 1} (𝓤 : URA M) (H : Heap 𝓤) (A : Atoms 𝓤) (mem : Memory → SProp 𝓤) (run : Routine → Fun 𝓤) where
   pub arguments-of-one : OneAnswer 𝓤 arguments-of.ended (arguments-of.clauses 𝓤 H A mem run)
@@ -30,12 +26,6 @@ module _ {M : Type 1} (𝓤 : URA M) (H : Heap 𝓤) (A : Atoms 𝓤) (mem : Mem
 
   pub arguments-one : OneAnswer 𝓤 arguments.ended (arguments.clauses 𝓤 H A mem run)
   arguments-one κs passed g r s x y = one 𝓤 r s _
-
-  pub nutation-of-one : OneAnswer 𝓤 nutation-of.ended (nutation-of.clauses 𝓤 H A mem run)
-  nutation-of-one κs passed g r s x y = one 𝓤 r s _
-
-  pub nutation-one : OneAnswer 𝓤 nutation.ended (nutation.clauses 𝓤 H A mem run)
-  nutation-one κs passed g r s x y = one 𝓤 r s _
 
   pub precession-of-one : OneAnswer 𝓤 precession-of.ended (precession-of.clauses 𝓤 H A mem run)
   precession-of-one κs passed g r s x y = one 𝓤 r s _
@@ -54,9 +44,3 @@ module _ {M : Type 1} (𝓤 : URA M) (H : Heap 𝓤) (A : Atoms 𝓤) (mem : Mem
 
   pub sidereal-one : OneAnswer 𝓤 sidereal.ended (sidereal.clauses 𝓤 H A mem run)
   sidereal-one κs passed g r s x y = one 𝓤 r s _
-
-  pub sun-longitude-of-one : OneAnswer 𝓤 sun-longitude-of.ended (sun-longitude-of.clauses 𝓤 H A mem run)
-  sun-longitude-of-one κs passed g r s x y = one 𝓤 r s _
-
-  pub sun-longitude-one : OneAnswer 𝓤 sun-longitude.ended (sun-longitude.clauses 𝓤 H A mem run)
-  sun-longitude-one κs passed g r s x y = one 𝓤 r s _

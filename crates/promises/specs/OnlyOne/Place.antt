@@ -8,15 +8,11 @@ use ghost.Atoms.{Atoms}
 use contract.Monad.{Fun}
 use Rattle.promises.specs.Contracts.{OneAnswer, one}
 use Rattle.place.proofs.place as place
-use Rattle.place.proofs.night_of as night-of
 use Rattle.place.proofs.place_in as place-in
 
 module _ {M : Type 1} (𝓤 : URA M) (H : Heap 𝓤) (A : Atoms 𝓤) (mem : Memory → SProp 𝓤) (run : Routine → Fun 𝓤) where
   pub place-one : OneAnswer 𝓤 place.ended (place.clauses 𝓤 H A mem run)
   place-one κs passed g r s x y = one 𝓤 r s _
-
-  pub night-of-one : OneAnswer 𝓤 night-of.ended (night-of.clauses 𝓤 H A mem run)
-  night-of-one κs passed g r s x y = one 𝓤 r s _
 
   pub place-in-one : OneAnswer 𝓤 place-in.ended (place-in.clauses 𝓤 H A mem run)
   place-in-one κs passed g r s x y = one 𝓤 r s _

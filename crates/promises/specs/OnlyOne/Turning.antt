@@ -7,22 +7,10 @@ use prog.Wp.{Heap}
 use ghost.Atoms.{Atoms}
 use contract.Monad.{Fun}
 use Rattle.promises.specs.Contracts.{OneAnswer, one}
-use Rattle.turning.proofs.accepted as accepted
-use Rattle.turning.proofs.to_length as to-length
-use Rattle.turning.proofs.brought as brought
 use Rattle.turning.proofs.turn_by as turn-by
 use Rattle.turning.proofs.turn as turn
 
 module _ {M : Type 1} (𝓤 : URA M) (H : Heap 𝓤) (A : Atoms 𝓤) (mem : Memory → SProp 𝓤) (run : Routine → Fun 𝓤) where
-  pub accepted-one : OneAnswer 𝓤 accepted.ended (accepted.clauses 𝓤 H A mem run)
-  accepted-one κs passed g r s x y = one 𝓤 r s _
-
-  pub to-length-one : OneAnswer 𝓤 to-length.ended (to-length.clauses 𝓤 H A mem run)
-  to-length-one κs passed g r s x y = one 𝓤 r s _
-
-  pub brought-one : OneAnswer 𝓤 brought.ended (brought.clauses 𝓤 H A mem run)
-  brought-one κs passed g r s x y = one 𝓤 r s _
-
   pub turn-by-one : OneAnswer 𝓤 turn-by.ended (turn-by.clauses 𝓤 H A mem run)
   turn-by-one κs passed g r s x y = one 𝓤 r s _
 
