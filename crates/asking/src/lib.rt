@@ -2,8 +2,8 @@
 ghost use mathlib.Core.Path.{_≡_};
 ghost use Rattle.asking.specs.Asking as rule;
 use fields::line_of;
-use fields::of_number;
-use fields::signed;
+use fields::numbers::of_number;
+use fields::numbers::signed;
 use rules::Line;
 use rules::Moment;
 use rules::Site;

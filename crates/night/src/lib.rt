@@ -1,41 +1,29 @@
 // All of a place that date and site alone decide.
 
-use rules::Direction;
+use crate::parts::aberration;
+use crate::parts::latitude_pair;
+use crate::parts::opposite_of;
+use crate::parts::sidereal_pair;
 use rules::Instants;
 use rules::Moment;
 use rules::Night;
-use rules::Pair;
 use rules::Prepared;
 use rules::Refusal;
 use rules::Site;
 use rules::Tt;
 use rules::Ut;
 ghost use mathlib.Core.Path.{_≡_};
-ghost use Prim.Native.Nat.{_≤_, _^_};
-ghost use lib.IntN.{ℤ, pos, negℤ, natAbs, _+ℤ_, _-ℤ_, _*ℤ_};
-ghost use Rattle.rules.specs.Units.{quarter, unit};
-ghost use Rattle.rules.specs.Rounding.{rnd, remainder};
-ghost use Rattle.rules.specs.Circle.{pair};
-ghost use Rattle.rules.specs.Sidereal.{sidereal};
-ghost use Rattle.rules.specs.Night as rule;
 ghost use Rattle.rules.specs.declared.Instants.{Instants};
-ghost use Rattle.laws.specs.Angles.{Sized};
+ghost use Rattle.rules.specs.Night as rule;
 ghost use Rattle.laws.specs.Instant.{InRange};
-ghost use Rattle.night.specs.Given.{ScaledFits, LocalFits, SiteFits};
-ghost use Rattle.night.specs.Parts.{opposite};
+ghost use Rattle.night.specs.Given.{SiteFits};
 
-// C, a quarter and half of it, in µas.
-const CIRCLE: i64 = 1296000000000;
+mod parts;
 
+// A quarter of C and half of it, in µas.
 const QUARTER: i64 = 324000000000;
 
 const HALF: i64 = 648000000000;
-
-// 1 in a cosine or a sine.
-const UNIT: i64 = 1073741824;
-
-// The constant of aberration, in parts of 2^30.
-const ABERRATION: i64 = 106692;
 
 // All that a moment and a site decide, for any number of stars.
 //
@@ -99,54 +87,4 @@ pub fn night_at(ut: Ut, tt: Tt, site: Site) -> Night
         sidereal: sidereal_pair(ut, n.longitude, mean.cosine, site.longitude),
         latitude: latitude_pair(site.latitude),
     }
-}
-
-// The pair of the opposite angle.
-fn opposite_of(p: Pair) -> Pair
-    requires { ⌜ Sized p ⌝ }
-    ensures { λ r. ⌜ r ≡ opposite p ⌝ }
-{
-    Pair {
-        cosine: p.cosine,
-        sine: -p.sine,
-    }
-}
-
-// Rnd(k * part / 2^30).
-fn scaled(k: i64, part: i64) -> i64
-    requires { ⌜ ScaledFits k part ⌝ }
-    ensures { λ r. ⌜ r ≡ rnd (k *ℤ part) unit ⌝ }
-{
-    whole::rnd_quotient(k * part, UNIT)
-}
-
-// 4. What aberration adds, of the pairs of the Sun's longitude and of ε.
-fn aberration(s: Pair, e: Pair) -> Direction
-    requires { ⌜ Sized s ⌝ }
-    requires { ⌜ Sized e ⌝ }
-    ensures { λ r. ⌜ r ≡ rule.aberration s e ⌝ }
-{
-    let by = -scaled(ABERRATION, s.cosine);
-    Direction {
-        x: scaled(ABERRATION, s.sine),
-        y: scaled(by, e.cosine),
-        z: scaled(by, e.sine),
-    }
-}
-
-// 6. The pair of minus the local sidereal angle: Δψ, the cosine of ε, the site's longitude.
-fn sidereal_pair(ut: Ut, nutation: i64, cosine: i64, longitude: i64) -> Pair
-    requires { ⌜ LocalFits ut nutation cosine longitude ⌝ }
-    ensures { λ r. ⌜ r ≡ pair (remainder (negℤ (sidereal ut +ℤ rnd (nutation *ℤ cosine) unit +ℤ longitude))) ⌝ }
-{
-    let local = earth::sidereal::sidereal_of(ut) + scaled(nutation, cosine) + longitude;
-    circle::pair(-local % CIRCLE)
-}
-
-// 6. The pair of latitude - quarter.
-fn latitude_pair(latitude: i64) -> Pair
-    requires { ⌜ natAbs latitude ≤ 2 ^ 60 ⌝ }
-    ensures { λ r. ⌜ r ≡ pair (remainder (latitude -ℤ pos quarter)) ⌝ }
-{
-    circle::pair((latitude - QUARTER) % CIRCLE)
 }

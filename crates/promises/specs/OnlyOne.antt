@@ -16,6 +16,7 @@ pub mod Night
 pub mod Place
 pub mod StarBytes
 pub mod StarFile
+pub mod StarRecords
 pub mod StarWriting
 pub mod StarList
 pub mod NightList

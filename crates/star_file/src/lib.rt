@@ -3,6 +3,7 @@
 use rules::Listed;
 ghost use mathlib.Core.Path.{_≡_};
 
+pub mod entries;
 pub mod reading;
 
 // What the checks of a list came to: its answer, and how many records are to be worked.

@@ -1,9 +1,6 @@
-// A list file read: its count, a star by its index, an entry.
+// A list file read: its count, and a star by its index.
 
-use crate::Plan;
-use rules::Entry;
 use rules::Listed;
-use rules::Place;
 use rules::Refusal;
 use rules::Star;
 use rules::Starred;
@@ -14,8 +11,7 @@ ghost use mathlib.Core.Path.{_≡_};
 ghost use lib.ListN.{length, drop};
 ghost use Prim.Native.Nat.{_+_, _*_, _≤_};
 ghost use Rattle.rules.specs.StarList.{starIn, starsIn, anyRefused, markRefused, listCount};
-ghost use Rattle.rules.specs.StarList.{listStar, freshEntry};
-ghost use Rattle.star_file.specs.Plans.{readPlan};
+ghost use Rattle.rules.specs.StarList.{listStar};
 
 // The length of a file's head and of a record, and the most records.
 const HEAD: usize = 7;
@@ -25,7 +21,7 @@ const RECORD: usize = 24;
 const MOST: usize = 64;
 
 // The star of the record that starts at `at`.
-fn star_at(file: &[u8], at: usize) -> Star
+pub fn star_at(file: &[u8], at: usize) -> Star
     requires { ⌜ at + 24 ≤ length (now file) ⌝ }
     ensures { λ r. ⌜ r ≡ starIn (drop at (now (file .entry))) ⌝ }
 {
@@ -112,47 +108,5 @@ pub fn list_star(file: &[u8], index: usize) -> Starred
                 Starred::Refused(Refusal::Room)
             }
         }
-    }
-}
-
-// The checks of reading into `room` entries: 9, 10, 5, then 11.
-pub fn read_plan(file: &[u8], room: usize) -> Plan
-    ensures { λ r. ⌜ r ≡ readPlan (now (file .entry)) room ⌝ }
-{
-    match list_count(file) {
-        Listed::Refused(r) => Plan {
-            answer: Listed::Refused(r),
-            todo: 0,
-        },
-        Listed::Count(count) => {
-            if room < count {
-                Plan {
-                    answer: Listed::Refused(Refusal::Room),
-                    todo: 0,
-                }
-            } else {
-                Plan {
-                    answer: Listed::Count(count),
-                    todo: count,
-                }
-            }
-        }
-    }
-}
-
-// Record i of the file as an entry.
-pub fn entry_at(file: &[u8], i: usize) -> Entry
-    requires { ⌜ 7 + 24 * i + 24 ≤ length (now file) ⌝ }
-    ensures { λ r. ⌜ r ≡ freshEntry (starIn (drop (7 + 24 * i) (now (file .entry)))) ⌝ }
-{
-    Entry {
-        star: star_at(file, HEAD + RECORD * i),
-        mark: 0,
-        place: Place {
-            ra: 0,
-            declination: 0,
-            azimuth: 0,
-            altitude: 0,
-        },
     }
 }

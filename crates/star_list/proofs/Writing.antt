@@ -20,7 +20,7 @@ use Rattle.star_file.specs.declared.Plan.{Plan}
 use Rattle.star_file.specs.Plans.{planOf}
 use Rattle.star_writing.specs.Plans.{writePlan, Ready}
 use Rattle.star_bytes.specs.Puts.{put, put-length, put-none, put-put}
-use Rattle.star_writing.specs.Records.{file-put}
+use Rattle.star_records.specs.Records.{file-put}
 use Rattle.star_list.proofs.Lists.{snoc-length}
 
 -- how many of the entries have a star that is accepted

@@ -3,10 +3,10 @@
 use rules::Entry;
 use rules::Listed;
 use star_file::answer_of;
-use star_file::reading::entry_at;
-use star_file::reading::read_plan;
+use star_file::entries::entry_at;
+use star_file::entries::read_plan;
+use star_records::put_entry;
 use star_writing::finish;
-use star_writing::put_entry;
 use star_writing::tally;
 use star_writing::write_plan;
 ghost use mathlib.Core.Path.{_≡_};

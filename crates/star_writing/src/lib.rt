@@ -1,27 +1,24 @@
-// A list file written: its records, its head, and a whole file from a row of numbers.
+// A list file written: the checks, and a whole file from a row of numbers.
 
 use rules::Entry;
 use rules::Listed;
 use rules::Refusal;
-use star_bytes::put_number;
 use star_file::Plan;
+use star_records::put_head;
+use star_records::put_star;
 use stars::numbers_refused;
 use stars::star_refused;
 ghost use mathlib.Core.Path.{_≡_};
 ghost use mathlib.Core.Bool.{cond};
-ghost use mathlib.Core.List.{_++_};
-ghost use lib.IntN.{ℤ};
 ghost use lib.ListN.{length};
 ghost use Prim.Native.Nat.{_+_, _*_, _<_, _≤_, _^_};
 ghost use Rattle.rules.specs.Place.{starRefused};
-ghost use Rattle.rules.specs.StarList.{recordOf, anyRefused, leaving, starsFrom};
+ghost use Rattle.rules.specs.StarList.{anyRefused, leaving, starsFrom};
 ghost use Rattle.rules.specs.StarList.{numbersWritten, roomAfterNumbers};
-ghost use Rattle.laws.specs.ByteByByte.{lowBytes};
 ghost use Rattle.laws.specs.FileLength.{headOf};
-ghost use Rattle.stars.specs.Numbers.{starOf};
 ghost use Rattle.star_writing.specs.Plans.{Ready, writePlan};
 ghost use Rattle.star_bytes.specs.Puts.{put};
-ghost use Rattle.star_writing.specs.Records.{lowRecord, lowRecords};
+ghost use Rattle.star_records.specs.Records.{lowRecords};
 
 // The length of a file's head and of a record, and the most records.
 const HEAD: usize = 7;
@@ -29,58 +26,6 @@ const HEAD: usize = 7;
 const RECORD: usize = 24;
 
 const MOST: usize = 64;
-
-// Two numbers, one after the other.
-fn put_pair(room: &mut [u8], at: usize, width: usize, a: i64, b: i64)
-    requires { ⌜ at + (width + width) ≤ length (now room) ⌝ }
-    ensures { λ _. ⌜ now (room .exit)
-        ≡ put (now (room .entry)) at (lowBytes width a ++ lowBytes width b) ⌝ }
-{
-    put_number(room, at, width, a);
-    put_number(room, at + width, width, b);
-}
-
-// The four numbers of a star as a record.
-fn put_star(room: &mut [u8], at: usize, ra: i64, declination: i64, motion: i64, other: i64)
-    requires { ⌜ at + 24 ≤ length (now room) ⌝ }
-    ensures { λ _. ⌜ now (room .exit)
-        ≡ put (now (room .entry)) at (lowRecord (starOf ra declination motion other)) ⌝ }
-{
-    put_pair(room, at, 8, ra, declination);
-    put_pair(room, at + 16, 4, motion, other);
-}
-
-// An entry's star as record i; the next is i + 1.
-pub fn put_entry(room: &mut [u8], i: usize, entry: Entry) -> usize
-    requires { ⌜ 7 + 24 * i + 24 ≤ length (now room) ⌝ }
-    ensures { λ r. ⌜ (r ≡ i + 1)
-        × (now (room .exit) ≡ put (now (room .entry)) (7 + 24 * i) (recordOf (entry .star))) ⌝ }
-{
-    let star = entry.star;
-    put_star(
-        room,
-        HEAD + RECORD * i,
-        star.ra,
-        star.declination,
-        star.ra_motion as i64,
-        star.declination_motion as i64,
-    );
-    i + 1
-}
-
-// `SLT`, version 1 and the count.
-fn put_head(room: &mut [u8], count: usize)
-    requires { ⌜ (7 ≤ length (now room)) × (count ≤ 64) ⌝ }
-    ensures { λ _. ⌜ now (room .exit) ≡ put (now (room .entry)) 0 (headOf count) ⌝ }
-{
-    room[0] = 83;
-    room[1] = 76;
-    room[2] = 84;
-    room[3] = 1;
-    room[4] = 0;
-    room[5] = count as u8;
-    room[6] = 0;
-}
 
 // One more where the entry's star is accepted.
 pub fn tally(n: usize, entry: Entry) -> usize

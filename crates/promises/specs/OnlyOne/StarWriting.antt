@@ -8,17 +8,12 @@ use ghost.Atoms.{Atoms}
 use contract.Monad.{Fun}
 use denote.Ref.{now}
 use Rattle.promises.specs.Contracts.{OneAnswer, OneAnswerAndContent, one, one-both}
-use Rattle.star_writing.proofs.put_entry as put-entry
 use Rattle.star_writing.proofs.tally as tally
 use Rattle.star_writing.proofs.write_plan as write-plan
 use Rattle.star_writing.proofs.finish as finish
 use Rattle.star_writing.proofs.list_write as list-write
 
 module _ {M : Type 1} (𝓤 : URA M) (H : Heap 𝓤) (A : Atoms 𝓤) (mem : Memory → SProp 𝓤) (run : Routine → Fun 𝓤) where
-  pub put-entry-one : OneAnswerAndContent 𝓤 put-entry.ended (put-entry.clauses 𝓤 H A mem run)
-      (λ κs x. now (x .0))
-  put-entry-one κs passed g r s x y = one-both 𝓤 r s _ _ _ _
-
   pub tally-one : OneAnswer 𝓤 tally.ended (tally.clauses 𝓤 H A mem run)
   tally-one κs passed g r s x y = one 𝓤 r s _
 

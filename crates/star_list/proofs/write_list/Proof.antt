@@ -81,10 +81,10 @@ use Rattle.star_writing.proofs.write_plan as plan
 use Rattle.star_writing.proofs.write_plan.Symbol as plan-def
 use Rattle.star_writing.proofs.write_plan.Symbol.{name as #write-plan}
 use Rattle.star_writing.proofs.write_plan.Met as plan-thm
-use Rattle.star_writing.proofs.put_entry as record′
-use Rattle.star_writing.proofs.put_entry.Symbol as record′-def
-use Rattle.star_writing.proofs.put_entry.Symbol.{name as #put-entry}
-use Rattle.star_writing.proofs.put_entry.Met as record′-thm
+use Rattle.star_records.proofs.put_entry as record′
+use Rattle.star_records.proofs.put_entry.Symbol as record′-def
+use Rattle.star_records.proofs.put_entry.Symbol.{name as #put-entry}
+use Rattle.star_records.proofs.put_entry.Met as record′-thm
 use Rattle.star_writing.proofs.finish as finish
 use Rattle.star_writing.proofs.finish.Symbol as finish-def
 use Rattle.star_writing.proofs.finish.Symbol.{name as #finish}
@@ -831,6 +831,6 @@ write-list-spec 𝓤 H 𝓜 𝓖 𝓡 =
     (cited 𝓤 H (PlanOf 𝓤 H (𝓖 .A) (𝓜 .mem) (𝓡 .run)) 𝓜 𝓡 code.env #write-plan plan-def.routine
     code.calls-star-writing·write-plan (plan-thm.met 𝓤 H 𝓜 𝓖 𝓡))
     (cited 𝓤 H (PutRecord 𝓤 H (𝓖 .A) (𝓜 .mem) (𝓡 .run)) 𝓜 𝓡 code.env #put-entry record′-def.routine
-    code.calls-star-writing·put-entry (record′-thm.met 𝓤 H 𝓜 𝓖 𝓡))
+    code.calls-star-records·put-entry (record′-thm.met 𝓤 H 𝓜 𝓖 𝓡))
     (cited 𝓤 H (Finish 𝓤 H (𝓖 .A) (𝓜 .mem) (𝓡 .run)) 𝓜 𝓡 code.env #finish finish-def.routine
     code.calls-star-writing·finish (finish-thm.met 𝓤 H 𝓜 𝓖 𝓡)))

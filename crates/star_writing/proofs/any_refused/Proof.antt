@@ -12,7 +12,7 @@ use Rattle.rules.specs.StarList.{starFrom, anyRefused}
 use Rattle.laws.specs.Records.{each, starsFrom-each, each-more, any-of, any-snoc}
 use Rattle.words.specs.Fits.{held64}
 use Rattle.stars.specs.Numbers.{starOf}
-use Rattle.star_writing.specs.Records.{row-star}
+use Rattle.star_records.specs.Records.{row-star}
 use Rattle.star_writing.proofs.any_refused.Statement.{statement}
 use Rattle.star_writing.proofs.any_refused.Tie as tie
 

@@ -16,7 +16,7 @@ use Rattle.laws.specs.StarList.{numbers-kept}
 use Rattle.laws.specs.ListWriting.{numbers-refused-5, numbers-refused-11, numbers-counted}
 use Rattle.laws.specs.ListWriting.{row-uneven, row-even, room-many, room-small, room-enough, number-count}
 use Rattle.star_bytes.specs.Puts.{put}
-use Rattle.star_writing.specs.Records.{low-records, file-put}
+use Rattle.star_records.specs.Records.{low-records, file-put}
 use Rattle.star_writing.proofs.list_write.Statement.{statement}
 use Rattle.star_writing.proofs.list_write.Tie as tie
 

@@ -10,8 +10,8 @@ use Rattle.laws.specs.Records.{each, starsFrom-each, each-length, each-more}
 use Rattle.star_bytes.specs.Puts.{put, put-length, put-none, put-put}
 use Rattle.words.specs.Fits.{held64}
 use Rattle.stars.specs.Numbers.{starOf}
-use Rattle.star_writing.specs.Records.{row-star, lowRecords, lowRecord, low-snoc, low-records-length}
-use Rattle.star_writing.specs.Records.{low-record-length}
+use Rattle.star_records.specs.Records.{row-star, lowRecords, lowRecord, low-snoc, low-records-length}
+use Rattle.star_records.specs.Records.{low-record-length}
 use Rattle.star_writing.proofs.put_stars.Statement.{statement}
 use Rattle.star_writing.proofs.put_stars.Tie as tie
 
