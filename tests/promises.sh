@@ -82,8 +82,9 @@ for library in crates/*/src/lib.rt; do
                 || { printf 'no theorem that it asks nothing: %s\n' "$name"; missing=$((missing + 1)); }
         done
         for name in $(asking "crates/$crate/src/${module:-lib}.rt"); do
-            grep -q "^[^|]*\`$crate::${module:+$module::}$name\`" $page \
-                || { printf 'asks something, and is not on the page: %s\n' "$crate::${module:+$module::}$name"; missing=$((missing + 1)); }
+            name=$crate::${module:+$module::}$name
+            grep -q "^[^|]*\`$name\`" $page \
+                || { printf 'asks something, and is not on the page: %s\n' "$name"; missing=$((missing + 1)); }
         done
     done
 done

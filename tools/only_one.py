@@ -12,6 +12,11 @@ ROOT = pathlib.Path(__file__).resolve().parent.parent
 SPECS = ROOT / "crates/promises/specs"
 WIDTH = 120
 
+# a public function: its name, parameters, answer and clauses
+FUNCTION = re.compile(
+    r'^pub (?:extern "C" )?fn (\w+)\((.*?)\)([^()]*?)\n((?:    (?:requires|ensures).*?)?)^\{', re.M | re.S
+)
+
 # the form of a contract: the lemma of Contracts.antt that serves it, and how many arguments are found by the prover
 LEMMAS = {"one": 1, "one-and": 3, "one-both": 4, "one-each": 4, "one-content": 3}
 
@@ -34,7 +39,7 @@ def sources(crate):
 
 def functions(crate):
     for path, text in sources(crate):
-        for match in re.finditer(r'^pub (?:extern "C" )?fn (\w+)\((.*?)\)([^()]*?)\n((?:    (?:requires|ensures).*?)?)^\{', text, re.M | re.S):
+        for match in FUNCTION.finditer(text):
             name, given, answer, clauses = match.groups()
             yield path, name, re.findall(r"(\w+): ([^,]+)", given), "->" in answer, clauses
 
@@ -95,7 +100,7 @@ def page(crate):
 def main():
     shutil.rmtree(SPECS / "OnlyOne", ignore_errors=True)
     (SPECS / "OnlyOne").mkdir()
-    index = ["-- No second answer fits, and no second content of lent memory: of each public function, by its own contract."]
+    index = ["-- No second answer fits, nor a second content of lent memory: of each public function, by its contract."]
     for crate in crates():
         text = page(crate)
         if text:

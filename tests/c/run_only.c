@@ -1,5 +1,6 @@
-/* Document 01, "Cases": those that are run only, each through every function of the module and of the tests' own exports
- * that meets it. A line has the case, the call and every number of the answer; run_only.txt has what must be printed.
+/* Document 01, "Cases": those that are run only, each through every function of the module and of the tests' own
+ * exports that meets it. A line has the case, the call and every number of the answer; run_only.txt has what must be
+ * printed.
  * After each case stands its neighbour that is accepted, where document 01 says what that answers. */
 #include "inner.h"
 #include "turbelicus.h"

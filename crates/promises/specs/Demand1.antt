@@ -4,6 +4,7 @@
 --   `-refused`   it is a refusal exactly when that is the first of its checks that is given
 --   `-answer`    the same in the paper's number and values
 --   `-content`   what it leaves in lent memory; `-kept`: as it was, where a refusal is given
+--   `-tells`     the same of the function itself, by its contract (`Functions`, `FunctionsForC`)
 pub mod Checks
 pub mod InOrder
 pub mod Asks
@@ -15,3 +16,5 @@ pub mod Lists
 pub mod Writing
 pub mod NightList
 pub mod Boundary
+pub mod Functions
+pub mod FunctionsForC

@@ -1,4 +1,4 @@
--- No second answer fits, and no second content of lent memory: of each public function, by its own contract.
+-- No second answer fits, nor a second content of lent memory: of each public function, by its contract.
 pub mod Whole
 pub mod Refusals
 pub mod Length

@@ -11,6 +11,14 @@ use Rattle.rules.specs.Refusals.{number}
 use Rattle.laws.specs.Checks.{FirstGiven, NoneGiven, first-refused, first-answered}
 use Rattle.laws.specs.Refusals.{number-one, number-pos}
 
+-- an answer is a refusal exactly when that is the first of the checks that is given
+abbrev pub Refuses : {A : Type 0} → A → (Refusal → A) → List Check → Type 0
+Refuses answer refuse cs = (r : Refusal) → (answer ≡ refuse r) ↔ FirstGiven cs r
+
+-- where one of the checks is given, what was before is there after
+abbrev pub Keeps : {A : Type 0} → A → A → List Check → Type 0
+Keeps before after cs = (r : Refusal) → FirstGiven cs r → after ≡ before
+
 -- what is made of an answer is made of each refusal and of the rule's answer
 pub first-map : {A B : Type 0} (f : A → B) (cs : List Check) (refuse : Refusal → A) (answer : A)
     → f (first cs refuse answer) ≡ first cs (λ r. f (refuse r)) (f answer)
