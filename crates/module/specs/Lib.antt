@@ -1,3 +1,2 @@
--- What the module is given and answers, in plain numbers.
+-- What the module is given, in plain numbers.
 pub mod Given
-pub mod Answers

@@ -1,36 +1,16 @@
 // The list file: its count, a star by its index, and a file written at once.
 // Each call looks at the whole file, so that its answer depends on nothing that was asked before.
 
-use rules::Listed;
-use rules::Starred;
+use answers::lists::TurbelicusCounted;
+use answers::lists::TurbelicusStarred;
+use answers::lists::TurbelicusWritten;
+use answers::lists::counted_out;
+use answers::lists::starred_out;
+use answers::lists::written_out;
 ghost use mathlib.Core.Path.{_≡_};
 ghost use Rattle.rules.specs.Refusals.{listedAnswer, starredAnswer};
 ghost use Rattle.rules.specs.StarList.{listCount, listStar, numbersWritten, roomAfterNumbers};
-ghost use Rattle.module.specs.Answers.{countedOut, starredOut, writtenOut};
-
-// The refusal's number and nought, or 0 and the number of records.
-#[repr(C)]
-pub struct TurbelicusCounted {
-    pub refused: i64,
-    pub count: usize,
-}
-
-// The refusal's number and noughts, or 0 and the star; angles in µas, motions in µas a year.
-#[repr(C)]
-pub struct TurbelicusStarred {
-    pub refused: i64,
-    pub ra: i64,
-    pub declination: i64,
-    pub ra_motion: i32,
-    pub declination_motion: i32,
-}
-
-// The refusal's number and nought, or 0 and the file's length in bytes.
-#[repr(C)]
-pub struct TurbelicusWritten {
-    pub refused: i64,
-    pub length: usize,
-}
+ghost use Rattle.answers.specs.Answers.{countedOut, starredOut, writtenOut};
 
 // How many records a list file has.
 //
@@ -70,55 +50,4 @@ pub extern "C" fn turbelicus_list_write(numbers: &[i64], room: &mut [u8]) -> Tur
         × (now (room .exit) ≡ roomAfterNumbers (now (numbers .entry)) (now (room .entry))) ⌝ }
 {
     written_out(star_writing::list_write(numbers, room))
-}
-
-fn counted_out(a: Listed) -> TurbelicusCounted
-    ensures { λ r. ⌜ r ≡ countedOut (listedAnswer a) ⌝ }
-{
-    match a {
-        Listed::Count(count) => TurbelicusCounted {
-            refused: 0,
-            count: count,
-        },
-        Listed::Refused(r) => TurbelicusCounted {
-            refused: refusals::number(r),
-            count: 0,
-        },
-    }
-}
-
-fn starred_out(a: Starred) -> TurbelicusStarred
-    ensures { λ r. ⌜ r ≡ starredOut (starredAnswer a) ⌝ }
-{
-    match a {
-        Starred::Of(s) => TurbelicusStarred {
-            refused: 0,
-            ra: s.ra,
-            declination: s.declination,
-            ra_motion: s.ra_motion,
-            declination_motion: s.declination_motion,
-        },
-        Starred::Refused(r) => TurbelicusStarred {
-            refused: refusals::number(r),
-            ra: 0,
-            declination: 0,
-            ra_motion: 0,
-            declination_motion: 0,
-        },
-    }
-}
-
-fn written_out(a: Listed) -> TurbelicusWritten
-    ensures { λ r. ⌜ r ≡ writtenOut (listedAnswer a) ⌝ }
-{
-    match a {
-        Listed::Count(length) => TurbelicusWritten {
-            refused: 0,
-            length: length,
-        },
-        Listed::Refused(r) => TurbelicusWritten {
-            refused: refusals::number(r),
-            length: 0,
-        },
-    }
 }

@@ -1,8 +1,9 @@
 // The place of a star.
 
+use answers::places::TurbelicusPlaced;
+use answers::places::placed_out;
 use rules::Date;
 use rules::Moment;
-use rules::Placed;
 use rules::Site;
 use rules::Star;
 use rules::Time;
@@ -12,17 +13,7 @@ ghost use Rattle.rules.specs.Refusals.{placedAnswer};
 ghost use Rattle.rules.specs.Place as rule;
 ghost use Rattle.stars.specs.Numbers.{starOf};
 ghost use Rattle.module.specs.Given.{momentOf, siteOf};
-ghost use Rattle.module.specs.Answers.{placedOut};
-
-// The refusal's number and noughts, or 0 and the place in µas.
-#[repr(C)]
-pub struct TurbelicusPlaced {
-    pub refused: i64,
-    pub ra: i64,
-    pub declination: i64,
-    pub azimuth: i64,
-    pub altitude: i64,
-}
+ghost use Rattle.answers.specs.Answers.{placedOut};
 
 // The place of a star at a moment and a site.
 //
@@ -74,25 +65,4 @@ pub extern "C" fn turbelicus_place(
         longitude,
     };
     placed_out(place::place(moment, star, site))
-}
-
-fn placed_out(a: Placed) -> TurbelicusPlaced
-    ensures { λ r. ⌜ r ≡ placedOut (placedAnswer a) ⌝ }
-{
-    match a {
-        Placed::At(p) => TurbelicusPlaced {
-            refused: 0,
-            ra: p.ra,
-            declination: p.declination,
-            azimuth: p.azimuth,
-            altitude: p.altitude,
-        },
-        Placed::Refused(r) => TurbelicusPlaced {
-            refused: refusals::number(r),
-            ra: 0,
-            declination: 0,
-            azimuth: 0,
-            altitude: 0,
-        },
-    }
 }

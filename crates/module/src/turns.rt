@@ -1,23 +1,15 @@
 // A turn, and the reading of an angle.
 
+use answers::turns::TurbelicusTurned;
+use answers::turns::turned_out;
 use rules::Direction;
-use rules::Turned;
 ghost use mathlib.Core.Path.{_≡_};
 ghost use lib.IntN.{ℤ};
 ghost use Rattle.rules.specs.Refusals.{turnedAnswer};
 ghost use Rattle.rules.specs.Turning as rule;
 ghost use Rattle.rules.specs.Reading.{reading};
 ghost use Rattle.module.specs.Given.{directionOf};
-ghost use Rattle.module.specs.Answers.{turnedOut};
-
-// The refusal's number and noughts, or 0 and the direction in parts of 2^30.
-#[repr(C)]
-pub struct TurbelicusTurned {
-    pub refused: i64,
-    pub x: i64,
-    pub y: i64,
-    pub z: i64,
-}
+ghost use Rattle.answers.specs.Answers.{turnedOut};
 
 // A direction turned about an axis by an angle, and brought to length.
 //
@@ -41,23 +33,4 @@ pub extern "C" fn turbelicus_reading(h: i32, v: i32) -> i64
     ensures { λ r. ⌜ r ≡ reading h v ⌝ }
 {
     reading::reading(h, v)
-}
-
-fn turned_out(a: Turned) -> TurbelicusTurned
-    ensures { λ r. ⌜ r ≡ turnedOut (turnedAnswer a) ⌝ }
-{
-    match a {
-        Turned::To(v) => TurbelicusTurned {
-            refused: 0,
-            x: v.x,
-            y: v.y,
-            z: v.z,
-        },
-        Turned::Refused(r) => TurbelicusTurned {
-            refused: refusals::number(r),
-            x: 0,
-            y: 0,
-            z: 0,
-        },
-    }
 }

@@ -16,8 +16,8 @@ use Rattle.rules.specs.declared.Prepared.{Prepared}
 use Rattle.rules.specs.declared.Listed.{Listed}
 use Rattle.rules.specs.Night.{nightOf}
 use Rattle.rules.specs.NightList.{worked, marked, listRefused, listedIn, nightList, workedIn, entriesAfterNight}
-use Rattle.night_list.specs.declared.Plan.{Plan}
-use Rattle.night_list.specs.Plans.{todoOf, planOf, workedBy, answered, answerOf, PreparedFits}
+use Rattle.night_plan.specs.declared.Plan.{Plan}
+use Rattle.night_plan.specs.Plans.{todoOf, planOf, workedBy, answered, answerOf, PreparedFits}
 
 -- the entries that are worked
 abbrev pub workedAll : Prepared → ℕ → List Entry → List Entry

@@ -1,3 +1,2 @@
 -- What the contracts of inner functions cite beside the rules.
-pub mod Plans
 pub mod Fits

@@ -1,109 +1,15 @@
 // The night list: entries worked where they stand.
 
-use night::night_of;
-use place::place_in;
+use night_plan::answer;
+use night_plan::plan_of;
+use night_plan::tally;
+use night_plan::worked;
 use rules::Entry;
 use rules::Listed;
 use rules::Moment;
-use rules::Place;
-use rules::Prepared;
-use rules::Refusal;
 use rules::Site;
-use stars::star_refused;
 ghost use mathlib.Core.Path.{_≡_};
-ghost use mathlib.Core.Bool.{cond};
-ghost use lib.Dec.{eqb};
-ghost use Prim.Native.Nat.{_+_, _<_, _^_};
 ghost use Rattle.rules.specs.NightList.{nightList, entriesAfterNight};
-ghost use Rattle.rules.specs.Night.{nightOf};
-ghost use Rattle.night_list.specs.Plans.{todoOf, planOf, workedBy, answerOf, PreparedFits};
-
-// The most entries of a list.
-const MOST: usize = 64;
-
-// What the checks of a list came to: its night, how many entries it has, and how many are to be
-// worked: all, or none where the list is refused.
-pub struct Plan {
-    pub night: Prepared,
-    pub count: usize,
-    pub todo: usize,
-}
-
-// How many entries are to be worked.
-fn todo_of(night: Prepared, count: usize) -> usize
-    ensures { λ r. ⌜ r ≡ todoOf night count ⌝ }
-{
-    match night {
-        Prepared::Refused(_) => 0,
-        Prepared::For(_) => { if MOST < count { 0 } else { count } }
-    }
-}
-
-// The night, worked once, and the checks: 1 to 4, 6, then 11.
-fn plan_of(moment: Moment, site: Site, count: usize) -> Plan
-    ensures { λ r. ⌜ r ≡ planOf (nightOf moment site) count ⌝ }
-{
-    let night = night_of(moment, site);
-    let todo = todo_of(night, count);
-    Plan { night, count, todo }
-}
-
-// An entry with its mark and its place, or with mark 5 and noughts.
-fn worked(plan: Plan, entry: Entry) -> Entry
-    requires { ⌜ PreparedFits (plan .night) ⌝ }
-    ensures { λ r. ⌜ r ≡ workedBy (plan .night) entry ⌝ }
-{
-    let star = entry.star;
-    let night = plan.night;
-    match night {
-        Prepared::Refused(_) => entry,
-        Prepared::For(night) => {
-            if star_refused(star) {
-                return Entry {
-                    star,
-                    mark: 5,
-                    place: Place {
-                        ra: 0,
-                        declination: 0,
-                        azimuth: 0,
-                        altitude: 0,
-                    },
-                };
-            }
-            Entry {
-                star,
-                mark: 0,
-                place: place_in(night, star),
-            }
-        }
-    }
-}
-
-// One more where the entry is marked 0.
-fn tally(n: usize, entry: Entry) -> usize
-    requires { ⌜ n < 2 ^ 63 ⌝ }
-    ensures { λ r. ⌜ r ≡ n + cond (eqb (entry .mark) 0) 1 0 ⌝ }
-{
-    let mark = entry.mark;
-    if mark == 0 { n + 1 } else { n }
-}
-
-// What a list answers: its refusal, or how many entries are marked 0.
-fn answer(plan: Plan, n: usize) -> Listed
-    ensures { λ r. ⌜ r ≡ answerOf plan n ⌝ }
-{
-    let night = plan.night;
-    match night {
-        Prepared::Refused(r) => Listed::Refused(r),
-        Prepared::For(_) => {
-            if MOST < plan.count {
-                Listed::Refused(Refusal::Room)
-            } else {
-                Listed::Count(n)
-            }
-        }
-    }
-}
 
 // A night list, worked where it stands.
 //

@@ -15,10 +15,9 @@ ghost use lib.IntN.{ℤ};
 ghost use Rattle.rules.specs.Place as rule;
 ghost use Rattle.laws.specs.Instant.{InRange};
 ghost use Rattle.rules.specs.declared.Instants.{Instants};
-ghost use Rattle.place.specs.Given.{StarFits};
+ghost use Rattle.steps.specs.Given.{StarFits};
 
 mod readings;
-mod steps;
 
 // The place of a star at a moment and a site.
 //

@@ -13,12 +13,14 @@ pub mod Calendar
 pub mod Instants
 pub mod Stars
 pub mod Night
+pub mod Steps
 pub mod Place
 pub mod StarBytes
 pub mod StarFile
 pub mod StarRecords
 pub mod StarWriting
 pub mod StarList
+pub mod NightPlan
 pub mod NightList
 pub mod Decimals
 pub mod Fields
@@ -26,6 +28,7 @@ pub mod Lines
 pub mod Asking
 pub mod Sexagesimal
 pub mod PlaceLines
+pub mod Answers
 pub mod Module
 pub mod Inner
 pub mod InnerDates

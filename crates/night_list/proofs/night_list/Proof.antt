@@ -62,8 +62,8 @@ use Rattle.rules.specs.declared.Entry.{Entry}
 use Rattle.rules.specs.declared.Listed.{Listed}
 use Rattle.rules.specs.Night.{nightOf}
 use Rattle.rules.specs.NightList.{marked}
-use Rattle.night_list.specs.declared.Plan.{Plan}
-use Rattle.night_list.specs.Plans.{planOf, workedBy, answerOf, PreparedFits}
+use Rattle.night_plan.specs.declared.Plan.{Plan}
+use Rattle.night_plan.specs.Plans.{planOf, workedBy, answerOf, PreparedFits}
 use Rattle.night_list.specs.Fits.{night-of-fits}
 use Rattle.night_list.proofs.Lists.{mid-within, snoc-length, as-many, worked-length, markedOne, marked-le}
 use Rattle.night_list.proofs.Lists.{marked-none, marked-more}
@@ -76,24 +76,24 @@ use Rattle.rules.proofs.Entry as T
 use Rattle.rules.proofs.Entry.Laws as T′
 use Rattle.rules.proofs.Listed as L
 use Rattle.rules.proofs.Listed.Laws as L′
-use Rattle.night_list.proofs.Plan as P
-use Rattle.night_list.proofs.Plan.Laws as P′
-use Rattle.night_list.proofs.plan_of as plan
-use Rattle.night_list.proofs.plan_of.Symbol as plan-def
-use Rattle.night_list.proofs.plan_of.Symbol.{name as #plan-of}
-use Rattle.night_list.proofs.plan_of.Met as plan-thm
-use Rattle.night_list.proofs.worked as worked
-use Rattle.night_list.proofs.worked.Symbol as worked-def
-use Rattle.night_list.proofs.worked.Symbol.{name as #worked}
-use Rattle.night_list.proofs.worked.Met as worked-thm
-use Rattle.night_list.proofs.tally as tally
-use Rattle.night_list.proofs.tally.Symbol as tally-def
-use Rattle.night_list.proofs.tally.Symbol.{name as #tally}
-use Rattle.night_list.proofs.tally.Met as tally-thm
-use Rattle.night_list.proofs.answer as answer
-use Rattle.night_list.proofs.answer.Symbol as answer-def
-use Rattle.night_list.proofs.answer.Symbol.{name as #answer}
-use Rattle.night_list.proofs.answer.Met as answer-thm
+use Rattle.night_plan.proofs.Plan as P
+use Rattle.night_plan.proofs.Plan.Laws as P′
+use Rattle.night_plan.proofs.plan_of as plan
+use Rattle.night_plan.proofs.plan_of.Symbol as plan-def
+use Rattle.night_plan.proofs.plan_of.Symbol.{name as #plan-of}
+use Rattle.night_plan.proofs.plan_of.Met as plan-thm
+use Rattle.night_plan.proofs.worked as worked
+use Rattle.night_plan.proofs.worked.Symbol as worked-def
+use Rattle.night_plan.proofs.worked.Symbol.{name as #worked}
+use Rattle.night_plan.proofs.worked.Met as worked-thm
+use Rattle.night_plan.proofs.tally as tally
+use Rattle.night_plan.proofs.tally.Symbol as tally-def
+use Rattle.night_plan.proofs.tally.Symbol.{name as #tally}
+use Rattle.night_plan.proofs.tally.Met as tally-thm
+use Rattle.night_plan.proofs.answer as answer
+use Rattle.night_plan.proofs.answer.Symbol as answer-def
+use Rattle.night_plan.proofs.answer.Symbol.{name as #answer}
+use Rattle.night_plan.proofs.answer.Met as answer-thm
 use Rattle.night_list.proofs.night_list.Key.{name as #night-list}
 use Rattle.night_list.proofs.night_list as night
 use Rattle.night_list.proofs.night_list.Statement as stated
@@ -735,10 +735,10 @@ night-list-spec 𝓤 H 𝓜 𝓖 𝓡 =
     (tables 𝓤 H 𝓜 𝓡 code.env .C) (tables 𝓤 H 𝓜 𝓡 code.env .Λ) #night-list code.function (code.unfolded 𝓤 H 𝓜 𝓡)
     (night-meets 𝓤 H (𝓖 .A) (givenOf 𝓤 H 𝓜 𝓖) (𝓜 .mem) (𝓡 .run) (tablesOf 𝓤 H 𝓜 (tables 𝓤 H 𝓜 𝓡 code.env))
     (cited 𝓤 H (PlanOf 𝓤 H (𝓖 .A) (𝓜 .mem) (𝓡 .run)) 𝓜 𝓡 code.env #plan-of plan-def.routine
-    code.calls-night-list·plan-of (plan-thm.met 𝓤 H 𝓜 𝓖 𝓡))
+    code.calls-night-plan·plan-of (plan-thm.met 𝓤 H 𝓜 𝓖 𝓡))
     (cited 𝓤 H (Worked 𝓤 H (𝓖 .A) (𝓜 .mem) (𝓡 .run)) 𝓜 𝓡 code.env #worked worked-def.routine
-    code.calls-night-list·worked (worked-thm.met 𝓤 H 𝓜 𝓖 𝓡))
-    (cited 𝓤 H (Tally 𝓤 H (𝓖 .A) (𝓜 .mem) (𝓡 .run)) 𝓜 𝓡 code.env #tally tally-def.routine code.calls-night-list·tally
+    code.calls-night-plan·worked (worked-thm.met 𝓤 H 𝓜 𝓖 𝓡))
+    (cited 𝓤 H (Tally 𝓤 H (𝓖 .A) (𝓜 .mem) (𝓡 .run)) 𝓜 𝓡 code.env #tally tally-def.routine code.calls-night-plan·tally
     (tally-thm.met 𝓤 H 𝓜 𝓖 𝓡))
     (cited 𝓤 H (Answer 𝓤 H (𝓖 .A) (𝓜 .mem) (𝓡 .run)) 𝓜 𝓡 code.env #answer answer-def.routine
-    code.calls-night-list·answer (answer-thm.met 𝓤 H 𝓜 𝓖 𝓡)))
+    code.calls-night-plan·answer (answer-thm.met 𝓤 H 𝓜 𝓖 𝓡)))

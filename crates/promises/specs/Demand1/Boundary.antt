@@ -18,12 +18,12 @@ use Rattle.rules.specs.Turning.{turn, turned}
 use Rattle.rules.specs.Place.{placeIn, place}
 use Rattle.rules.specs.StarList.{countIn, fileLength, listCount, listStar, countFrom, numbersWritten}
 use Rattle.laws.specs.Checks.{FirstGiven, NoneGiven}
-use Rattle.module.specs.declared.places.TurbelicusPlaced.{TurbelicusPlaced}
-use Rattle.module.specs.declared.turns.TurbelicusTurned.{TurbelicusTurned}
-use Rattle.module.specs.declared.lists.TurbelicusCounted.{TurbelicusCounted}
-use Rattle.module.specs.declared.lists.TurbelicusStarred.{TurbelicusStarred}
-use Rattle.module.specs.declared.lists.TurbelicusWritten.{TurbelicusWritten}
-use Rattle.module.specs.Answers.{placedOut, turnedOut, countedOut, starredOut, writtenOut}
+use Rattle.answers.specs.declared.places.TurbelicusPlaced.{TurbelicusPlaced}
+use Rattle.answers.specs.declared.turns.TurbelicusTurned.{TurbelicusTurned}
+use Rattle.answers.specs.declared.lists.TurbelicusCounted.{TurbelicusCounted}
+use Rattle.answers.specs.declared.lists.TurbelicusStarred.{TurbelicusStarred}
+use Rattle.answers.specs.declared.lists.TurbelicusWritten.{TurbelicusWritten}
+use Rattle.answers.specs.Answers.{placedOut, turnedOut, countedOut, starredOut, writtenOut}
 use Rattle.promises.specs.Demand1.Checks.{placeChecks, turnChecks, fileChecks, starChecks, rowChecks}
 use Rattle.promises.specs.Demand1.InOrder.{first-map, refused-exactly, answered-exactly}
 use Rattle.promises.specs.Demand1.Turns.{turn-answer}

@@ -2,7 +2,7 @@
 use mathlib.Core.Path.{ap, _∙_}
 use borrow.Author.Needs.{needs}
 use Rattle.rules.specs.Refusals.{listedAnswer}
-use Rattle.module.specs.Answers.{countedOut}
+use Rattle.answers.specs.Answers.{countedOut}
 use Rattle.module.proofs.lists.turbelicus_list_count.Statement.{statement}
 use Rattle.module.proofs.lists.turbelicus_list_count.Tie as tie
 

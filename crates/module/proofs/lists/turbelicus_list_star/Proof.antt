@@ -2,7 +2,7 @@
 use mathlib.Core.Path.{ap, _∙_}
 use borrow.Author.Needs.{needs}
 use Rattle.rules.specs.Refusals.{starredAnswer}
-use Rattle.module.specs.Answers.{starredOut}
+use Rattle.answers.specs.Answers.{starredOut}
 use Rattle.module.proofs.lists.turbelicus_list_star.Statement.{statement}
 use Rattle.module.proofs.lists.turbelicus_list_star.Tie as tie
 

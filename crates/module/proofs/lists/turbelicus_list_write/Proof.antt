@@ -2,7 +2,7 @@
 use mathlib.Core.Path.{ap, _∙_}
 use borrow.Author.Needs.{needs}
 use Rattle.rules.specs.Refusals.{listedAnswer}
-use Rattle.module.specs.Answers.{writtenOut}
+use Rattle.answers.specs.Answers.{writtenOut}
 use Rattle.module.proofs.lists.turbelicus_list_write.Statement.{statement}
 use Rattle.module.proofs.lists.turbelicus_list_write.Tie as tie
 

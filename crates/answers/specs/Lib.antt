@@ -1,0 +1,2 @@
+-- The answers that C gets, in plain numbers.
+pub mod Answers

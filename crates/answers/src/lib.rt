@@ -1,0 +1,6 @@
+// The answers that C gets: a struct for each, the number of the refusal and noughts, or 0 and the
+// values.
+
+pub mod lists;
+pub mod places;
+pub mod turns;

@@ -1,0 +1,35 @@
+-- `night_plan::answer` meets its contract.
+use borrow.Author.Needs.{needs}
+use borrow.Author.Tests.{lt-ltb, le-ltb}
+use Rattle.night_plan.specs.Plans.{answered, answerOf}
+use Rattle.night_plan.proofs.answer.Statement.{statement}
+use Rattle.night_plan.proofs.answer.Tie as tie
+
+enum-known-night : tie.Need-enum-known-night
+enum-known-night c = search needs
+
+enum-told : tie.Need-enum-told
+enum-told c = search needs
+
+returns : tie.Need-returns
+unfolding answerOf answered
+returns c =
+    let e = c .before .night .given .1 in
+    rw e
+
+returns-2 : tie.Need-returns-2
+unfolding answerOf answered
+returns-2 c =
+    let e = c .before .before .enum-told .given .1 in
+    let many = lt-ltb 64 (c .before .before .before .before .args .plan .count) (c .if1 .taken) in
+    rw (e, many)
+
+returns-3 : tie.Need-returns-3
+unfolding answerOf answered
+returns-3 c =
+    let e = c .before .before .enum-told .given .1 in
+    let few = le-ltb 64 (c .before .before .before .before .args .plan .count) (c .if1 .left) in
+    rw (e, few)
+
+pub answer-spec : {M : Type 1} → statement M
+answer-spec = tie.close (tie.spec enum-known-night enum-told returns returns-2 returns-3)
