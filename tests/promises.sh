@@ -1,5 +1,6 @@
 #!/usr/bin/env bash
-# Holds every name of docs/PROMISES.md to the files: definitions, functions, theorems, edits and tests.
+# Holds every name of docs/PROMISES.md to the files: definitions, functions, theorems, edits and tests; every public
+# function to its theorem that no second answer fits; and every one with a `requires` to the page.
 set -uo pipefail
 cd "$(dirname "${BASH_SOURCE[0]}")/.." || exit 2
 
@@ -51,5 +52,42 @@ for edit in crates/*/must-fail/*.edit; do
     grep -q "^| .$name. |" $page || { printf 'not on the page: %s\n' "$name"; missing=$((missing + 1)); }
 done
 
-printf '%d names found, %d not\n' "$looked" "$missing"
-[ "$missing" -eq 0 ] && [ "$looked" -gt 200 ]
+# the functions of a source file that another crate can call
+public() { # public FILE
+    sed -nE 's/^pub (extern "C" )?fn ([a-z0-9_]+)\(.*/\2/p' "$1"
+}
+
+# and those of them that ask something of their caller
+asking() { # asking FILE
+    awk 'match($0, /^pub (extern "C" )?fn [a-z0-9_]+/) { name = substr($0, 1, RLENGTH); sub(/.* /, "", name) }
+        /^    requires/ && name != "" { print name; name = "" }
+        /^\{/ { name = "" }' "$1"
+}
+
+# every public function of a library has its theorem in promises, and what C calls another: it asks nothing
+alone=0
+for library in crates/*/src/lib.rt; do
+    crate=${library#crates/} crate=${crate%%/*}
+    theorems=crates/promises/specs/OnlyOne/$(sed -E 's/(^|_)([a-z])/\U\2/g' <<<"$crate").antt
+    for module in '' $(sed -n 's/^pub mod \([a-z0-9_]*\);/\1/p' "$library"); do
+        for name in $(public "crates/$crate/src/${module:-lib}.rt"); do
+            if grep -qs "^use Rattle\.$crate\.proofs\.${module:+$module\.}$name as ${name//_/-}\$" "$theorems" \
+                && declared "$theorems" "${name//_/-}-one"; then
+                alone=$((alone + 1))
+            else
+                printf 'no theorem that no second answer fits: %s\n' "$crate::${module:+$module::}$name"
+                missing=$((missing + 1))
+            fi
+            [ "$crate" != module ] || declared crates/promises/specs/Demand1/Asks.antt "${name//_/-}-asks-nothing" \
+                || { printf 'no theorem that it asks nothing: %s\n' "$name"; missing=$((missing + 1)); }
+        done
+        for name in $(asking "crates/$crate/src/${module:-lib}.rt"); do
+            name=$crate::${module:+$module::}$name
+            grep -q "^[^|]*\`$name\`" $page \
+                || { printf 'asks something, and is not on the page: %s\n' "$name"; missing=$((missing + 1)); }
+        done
+    done
+done
+
+printf '%d names and %d public functions found, %d not\n' "$looked" "$alone" "$missing"
+[ "$missing" -eq 0 ] && [ "$looked" -gt 200 ] && [ "$alone" -gt 90 ]

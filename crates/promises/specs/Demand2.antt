@@ -1,37 +1,98 @@
 -- Demand 2: each polynomial lies within 2 µas of its exact value, each sine and cosine within 4 parts in 2^30 of its
--- series; and what 01 promises of a reading and of the ranges of a place.
+-- series; and what 01 promises of a reading and of the ranges of a place. That every rule is followed to the last unit
+-- is each function's own contract, an equality with the rule (`OnlyOne`).
 use mathlib.Core.Path.{_≡_}
 use mathlib.Core.List.{List}
-use Prim.Native.Nat.{_+_, _*_, _-_, _≤_, _<_, _^_}
+use Prim.Native.Nat.{suc, _+_, _-_, _*_, _≤_, _<_, _^_}
+use native.Mathlib.Omega.{arith}
+use lib.Dec.{le→leb}
 use lib.ListN.{length}
-use lib.IntN.{ℤ, pos, natAbs, _+ℤ_, _-ℤ_, _*ℤ_}
-use lib.Signed.{_<ℤ_}
+use lib.IntN.{ℤ, pos, negsuc, natAbs, _+ℤ_, _-ℤ_, _*ℤ_}
+use lib.Signed.{_<ℤ_, _≤ℤ_, leZ-yes, ltZ-yes}
 use Rattle.rules.specs.declared.Ut.{Ut}
 use Rattle.rules.specs.declared.Tt.{Tt}
 use Rattle.rules.specs.declared.Moment.{Moment}
 use Rattle.rules.specs.declared.Star.{Star}
 use Rattle.rules.specs.declared.Site.{Site}
+use Rattle.rules.specs.declared.Term.{Term}
 use Rattle.rules.specs.declared.Place.{Place}
 use Rattle.rules.specs.declared.Placed.{Placed}
-use Rattle.rules.specs.Units.{century, unit}
+use Rattle.rules.specs.Units.{circle, quarter, century, unit}
 use Rattle.rules.specs.Circle.{pair}
 use Rattle.rules.specs.Series.{whole, radian, series}
-use Rattle.rules.specs.Polynomials.{polynomial, exactTimesCube}
+use Rattle.rules.specs.Polynomials.{polynomial, exactTimesCube, precession, zetaRow, zRow, thetaRow, obliquity}
+use Rattle.rules.specs.Polynomials.{obliquityRow, arguments, moonRow, sunRow, latitudeRow, elongationRow, nodeRow}
+use Rattle.rules.specs.Sun.{meanLongitude, meanLongitudeRow, firstRow, secondRow, thirdRow}
+use Rattle.rules.specs.Nutation.{longitudeAmplitude, obliquityAmplitude}
+use Rattle.rules.specs.Sidereal.{siderealPolynomial, siderealRow}
 use Rattle.rules.specs.Reading.{reading}
 use Rattle.rules.specs.Place.{place}
-use Rattle.laws.specs.Polynomials.{polynomial-near, EachWithin2, each-within-2}
+use Rattle.laws.specs.Near.{UpTo}
+use Rattle.laws.specs.Polynomials.{polynomial-near, each-within-2}
 use Rattle.laws.specs.Angles.{pair-near}
 use Rattle.laws.specs.Reading.{reading-reads}
-use Rattle.laws.specs.Place.{PlaceRanges, place-ranges}
+use Rattle.laws.specs.Place.{place-ranges}
 
--- any polynomial in time, both sides times Q³
+-- ---- polynomials
+
+-- p lies within 2 µas of the exact value of a row's polynomial at t, both sides times Q³
+abbrev pub Within2 : ℤ → List ℤ → ℤ → Type 0
+Within2 p row t = natAbs (p *ℤ pos (century ^ 3) -ℤ exactTimesCube row t) ≤ 2 * century ^ 3
+
+-- any polynomial in time
 pub polynomial-within-2 : (cs : List ℤ) (t : ℤ) → length cs ≤ 4 → natAbs t ≤ century
-    → natAbs (polynomial cs t *ℤ pos (century ^ 3) -ℤ exactTimesCube cs t) ≤ 2 * century ^ 3
+    → Within2 (polynomial cs t) cs t
 polynomial-within-2 cs t h k = polynomial-near cs t h k
 
 -- and each that document 01 names, by its row
-pub each-polynomial-within-2 : (t : Tt) (u : Ut) → natAbs (t .0) ≤ century → natAbs (u .0) ≤ century → EachWithin2 t u
-each-polynomial-within-2 t u h k = each-within-2 t u h k
+pub record PolynomialsWithin2 (t : Tt) (u : Ut) : Type 0 where
+  pub zeta : Within2 (precession t .zeta) zetaRow (t .0)
+  pub z : Within2 (precession t .z) zRow (t .0)
+  pub theta : Within2 (precession t .theta) thetaRow (t .0)
+  pub obliquity : Within2 (obliquity t) obliquityRow (t .0)
+  -- l, l′, F, D, Ω
+  pub moon : Within2 (arguments t .moon) moonRow (t .0)
+  pub sun : Within2 (arguments t .sun) sunRow (t .0)
+  pub latitude : Within2 (arguments t .latitude) latitudeRow (t .0)
+  pub elongation : Within2 (arguments t .elongation) elongationRow (t .0)
+  pub node : Within2 (arguments t .node) nodeRow (t .0)
+  -- the Sun's mean longitude, and the amplitudes of the centre
+  pub mean-longitude : Within2 (meanLongitude t) meanLongitudeRow (t .0)
+  pub first : Within2 (polynomial firstRow (t .0)) firstRow (t .0)
+  pub second : Within2 (polynomial secondRow (t .0)) secondRow (t .0)
+  pub third : Within2 (polynomial thirdRow (t .0)) thirdRow (t .0)
+  -- the amplitudes of a term of nutation
+  pub longitude-amplitude : (m : Term)
+      → Within2 (polynomial (longitudeAmplitude m) (t .0)) (longitudeAmplitude m) (t .0)
+  pub obliquity-amplitude : (m : Term)
+      → Within2 (polynomial (obliquityAmplitude m) (t .0)) (obliquityAmplitude m) (t .0)
+  -- "the polynomial alone", at UT
+  pub sidereal : Within2 (siderealPolynomial u) siderealRow (u .0)
+
+pub each-polynomial-within-2 : (t : Tt) (u : Ut) → natAbs (t .0) ≤ century → natAbs (u .0) ≤ century
+    → PolynomialsWithin2 t u
+each-polynomial-within-2 t u h k =
+    let e = each-within-2 t u h k in
+    record {
+      zeta = e .zeta;
+      z = e .z;
+      theta = e .theta;
+      obliquity = e .obliquity;
+      moon = e .moon;
+      sun = e .sun;
+      latitude = e .latitude;
+      elongation = e .elongation;
+      node = e .node;
+      mean-longitude = e .mean-longitude;
+      first = e .first;
+      second = e .second;
+      third = e .third;
+      longitude-amplitude = e .longitude-amplitude;
+      obliquity-amplitude = e .obliquity-amplitude;
+      sidereal = e .sidereal;
+    }
+
+-- ---- sine and cosine
 
 -- of every angle, both sides times the series' denominator
 pub cosine-within-4 : (a : ℤ)
@@ -42,6 +103,8 @@ pub sine-within-4 : (a : ℤ)
     → natAbs (pair a .sine *ℤ pos (whole radian) -ℤ pos unit *ℤ series a .sine) ≤ 4 * whole radian
 sine-within-4 a = pair-near a .sine
 
+-- ---- readings
+
 -- of every reading but that of (0, 0)
 pub reading-across : (h v : ℤ) → 0 < natAbs h + natAbs v
     → natAbs (pair (reading h v) .cosine *ℤ v -ℤ pair (reading h v) .sine *ℤ h) ≤ 8 * (natAbs h + natAbs v)
@@ -51,6 +114,27 @@ pub reading-along : (h v : ℤ) → 0 < natAbs h + natAbs v
     → pos 0 <ℤ (pair (reading h v) .cosine *ℤ h +ℤ pair (reading h v) .sine *ℤ v)
 reading-along h v k = reading-reads h v k .along
 
+-- ---- places
+
+-- right ascension and azimuth are 0 to C − 1, declination and altitude between minus and plus a quarter
+pub record PlaceInRange (p : Place) : Type 0 where
+  pub ra : (pos 0 ≤ℤ p .ra) × (p .ra <ℤ pos circle)
+  pub declination : natAbs (p .declination) ≤ quarter
+  pub azimuth : (pos 0 ≤ℤ p .azimuth) × (p .azimuth <ℤ pos circle)
+  pub altitude : natAbs (p .altitude) ≤ quarter
+
+on-circle : (a : ℤ) → UpTo a (circle - 1) → (pos 0 ≤ℤ a) × (a <ℤ pos circle)
+on-circle (pos n) h = (leZ-yes (le→leb 0 n (omega arith)), ltZ-yes (le→leb (suc n) circle (omega (arith, h .high))))
+on-circle (negsuc n) h = absurd (omega (arith, h .low))
+
 -- of every place that is answered
-pub place-in-range : (m : Moment) (star : Star) (site : Site) (p : Place) → place m star site ≡ Placed.At p → PlaceRanges p
-place-in-range m star site p e = place-ranges m star site p e
+pub place-in-range : (m : Moment) (star : Star) (site : Site) (p : Place) → place m star site ≡ Placed.At p
+    → PlaceInRange p
+place-in-range m star site p e =
+    let g = place-ranges m star site p e in
+    record {
+      ra = on-circle (p .ra) (g .ra);
+      declination = g .declination;
+      azimuth = on-circle (p .azimuth) (g .azimuth);
+      altitude = g .altitude;
+    }

@@ -1,14 +1,36 @@
--- No second answer fits. A contract of the form `r ≡ rule args` leaves one answer, and one content of lent memory; an
--- answer that is an enum is told apart by the paper's number and values.
-use mathlib.Core.Path.{_≡_, sym, _∙_}
-use Rattle.rules.specs.declared.Refusal.{Refusal}
-use Rattle.rules.specs.Refusals.{number}
-use Rattle.laws.specs.Refusals.{number-one}
-
--- two results that meet the same equality contract are the same
-pub only-one : {A : Type 0} (r s rule : A) → r ≡ rule → s ≡ rule → r ≡ s
-only-one r s rule p q = p ∙ sym q
-
--- two refusals with one number are the same refusal
-pub only-one-refusal : (r s : Refusal) → number r ≡ number s → r ≡ s
-only-one-refusal r s e = number-one r s e
+-- No second answer fits, nor a second content of lent memory: of each public function, by its contract.
+pub mod Whole
+pub mod Refusals
+pub mod Length
+pub mod Circle
+pub mod Reading
+pub mod Turning
+pub mod Polynomials
+pub mod Earth
+pub mod Sun
+pub mod Nutation
+pub mod Calendar
+pub mod Instants
+pub mod Stars
+pub mod Night
+pub mod Steps
+pub mod Place
+pub mod StarBytes
+pub mod StarFile
+pub mod StarRecords
+pub mod StarWriting
+pub mod StarList
+pub mod NightPlan
+pub mod NightList
+pub mod Decimals
+pub mod Fields
+pub mod Lines
+pub mod Asking
+pub mod Sexagesimal
+pub mod PlaceLines
+pub mod Answers
+pub mod Module
+pub mod Inner
+pub mod InnerDates
+pub mod InnerEarth
+pub mod InnerLists
