@@ -3,6 +3,7 @@ use mathlib.Core.Path.{_≡_, refl, sym, ap, _∙_}
 use mathlib.Core.Logic.{inl, inr, _↔_}
 use mathlib.Core.Bool.{Bool, true, false, cond}
 use mathlib.Core.List.{List, [], _∷_}
+use Prim.Native.Nat.{ℕ, _≤_}
 use native.Mathlib.Omega.{arith}
 use lib.IntN.{ℤ, pos, natAbs}
 use Rattle.rules.specs.declared.Refusal.{Refusal}
@@ -18,6 +19,17 @@ Refuses answer refuse cs = (r : Refusal) → (answer ≡ refuse r) ↔ FirstGive
 -- where one of the checks is given, what was before is there after
 abbrev pub Keeps : {A : Type 0} → A → A → List Check → Type 0
 Keeps before after cs = (r : Refusal) → FirstGiven cs r → after ≡ before
+
+-- no check of these has a number above the last
+abbrev pub NumbersTo : ℕ → List Check → Type 0
+NumbersTo last [] = Unit {0}
+NumbersTo last (c ∷ cs) = (number (c .refusal) ≤ last) × NumbersTo last cs
+
+-- so the first that is given has none
+pub number-to : (last : ℕ) (cs : List Check) → NumbersTo last cs → (r : Refusal) → FirstGiven cs r → number r ≤ last
+number-to last [] h r f = absurd f
+number-to last (c ∷ cs) h r (inl f) = rw (f .1) at (h .0)
+number-to last (c ∷ cs) h r (inr f) = number-to last cs (h .1) r (f .1)
 
 -- what is made of an answer is made of each refusal and of the rule's answer
 pub first-map : {A B : Type 0} (f : A → B) (cs : List Check) (refuse : Refusal → A) (answer : A)

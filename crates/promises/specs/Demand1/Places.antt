@@ -2,6 +2,8 @@
 use mathlib.Core.Path.{_≡_, refl, ap, _∙_}
 use mathlib.Core.Logic.{_↔_}
 use mathlib.Core.List.{List, [], _∷_, _++_}
+use Prim.Native.Nat.{_≤_}
+use native.Mathlib.Omega.{arith}
 use lib.IntN.{ℤ, pos}
 use Rattle.rules.specs.declared.Moment.{Moment}
 use Rattle.rules.specs.declared.Star.{Star}
@@ -13,13 +15,13 @@ use Rattle.rules.specs.declared.Instants.{Instants}
 use Rattle.rules.specs.declared.Prepared.{Prepared}
 use Rattle.rules.specs.declared.Placed.{Placed}
 use Rattle.rules.specs.Checks.{first}
-use Rattle.rules.specs.Refusals.{given, refused, placedAnswer, preparedAnswer, parts}
+use Rattle.rules.specs.Refusals.{number, given, refused, placedAnswer, preparedAnswer, parts}
 use Rattle.rules.specs.Dates.{utOf, ttOf}
 use Rattle.rules.specs.Night.{night, nightAt, nightOf}
 use Rattle.rules.specs.Place.{placeIn, placeAt, place}
 use Rattle.laws.specs.Checks.{FirstGiven}
 use Rattle.promises.specs.Demand1.Checks.{dateChecks, placeChecks, nightChecks}
-use Rattle.promises.specs.Demand1.InOrder.{first-map, refused-exactly}
+use Rattle.promises.specs.Demand1.InOrder.{number-to, first-map, refused-exactly}
 use Rattle.promises.specs.Demand1.Dates.{instants-checked}
 
 -- what a moment and a site make ready, where none of their checks is given
@@ -41,6 +43,14 @@ pub place-refused : (m : Moment) (star : Star) (site : Site) (r : Refusal)
 unfolding placedAnswer given refused
 place-refused m star site r = rw (place-checked m star site)
     (refused-exactly (λ a. pos (placedAnswer a .number)) Placed.Refused _ (λ _. refl) refl (placeChecks m star site) r)
+
+-- a place never answers 7, 8, 12 or 13: its numbers are 1 to 6
+pub place-number : (m : Moment) (star : Star) (site : Site) (r : Refusal) → place m star site ≡ Placed.Refused r
+    → number r ≤ 6
+unfolding number
+place-number m star site r e = number-to 6 (placeChecks m star site)
+    (omega arith, (omega arith, (omega arith, (omega arith, (omega arith, (omega arith, tt)))))) r
+    (place-refused m star site r .0 e)
 
 -- right ascension, declination, azimuth, altitude
 abbrev pub fourAngles : Place → List ℤ
