@@ -21,7 +21,7 @@ pub fn radian_parts(r: i64) -> i64
     requires { ⌜ UpTo r halfQuarter ⌝ }
     ensures { λ x. ⌜ x ≡ radianParts r ⌝ }
 {
-    whole::rnd_product_quotient(r, HALF_IN_PARTS, HALF)
+    rounding::rnd_product_quotient(r, HALF_IN_PARTS, HALF)
 }
 
 // The pair of x.
@@ -30,7 +30,7 @@ pub fn pair_of_parts(x: i64) -> Pair
     ensures { λ r. ⌜ r ≡ pairOfParts x ⌝ }
 {
     let w = rows::square_parts(x);
-    let s = whole::rnd_by_unit(x * rows::sine_factor(w));
+    let s = rounding::rnd_by_unit(x * rows::sine_factor(w));
     pair_to_length(rows::raw_cosine(w), s)
 }
 
@@ -39,7 +39,7 @@ fn pair_to_length(c: i64, s: i64) -> Pair
     requires { ⌜ PairGiven (record { cosine = c; sine = s }) ⌝ }
     ensures { λ r. ⌜ r ≡ pairToLength (record { cosine = c; sine = s }) ⌝ }
 {
-    let l = whole::length_root(c * c + s * s);
+    let l = roots::length_root(c * c + s * s);
     Pair {
         cosine: length::part_to(c, l),
         sine: length::part_to(s, l),

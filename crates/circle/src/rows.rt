@@ -14,7 +14,7 @@ pub fn square_parts(x: i64) -> i64
     requires { ⌜ natAbs x ≤ unit ⌝ }
     ensures { λ r. ⌜ r ≡ rule.squareParts x ⌝ }
 {
-    whole::rnd_by_unit(x * x)
+    rounding::rnd_by_unit(x * x)
 }
 
 // p = 2^30 - Rnd(w p / (2^30 k)).
@@ -22,7 +22,7 @@ fn stage(w: i64, k: i64, p: i64) -> i64
     requires { ⌜ StageGiven w k p ⌝ }
     ensures { λ r. ⌜ r ≡ rule.stage w (natAbs k) p ⌝ }
 {
-    UNIT - whole::rnd_short_quotient(w * p, UNIT * k)
+    UNIT - rounding::rnd_short_quotient(w * p, UNIT * k)
 }
 
 // The sine's row: the sine over x.

@@ -32,7 +32,7 @@ pub extern "C" fn inner_rnd_quotient(a: i64, b: i64) -> Tried
     }
     Tried {
         met: 1,
-        value: whole::rnd_quotient(a, b),
+        value: rounding::rnd_quotient(a, b),
     }
 }
 
@@ -46,7 +46,7 @@ pub extern "C" fn inner_whole_root(n: i64) -> Tried
     }
     Tried {
         met: 1,
-        value: whole::whole_root(n),
+        value: roots::whole_root(n),
     }
 }
 
@@ -71,7 +71,7 @@ pub extern "C" fn inner_rnd_product_quotient(a: i64, b: i64, d: i64) -> Tried
     }
     Tried {
         met: 1,
-        value: whole::rnd_product_quotient(a, b, d),
+        value: rounding::rnd_product_quotient(a, b, d),
     }
 }
 

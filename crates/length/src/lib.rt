@@ -35,7 +35,7 @@ pub fn length_of(v: Direction) -> i64
     requires { ⌜ squares v < 2 ^ 63 ⌝ }
     ensures { λ r. ⌜ r ≡ pos (root (squares v)) ⌝ }
 {
-    whole::length_root(squares_sum(v))
+    roots::length_root(squares_sum(v))
 }
 
 // Each part becomes Rnd(part * 2^30 / L).
@@ -55,7 +55,7 @@ pub fn part_to(part: i64, l: i64) -> i64
     requires { ⌜ PartFits part l ⌝ }
     ensures { λ r. ⌜ r ≡ partTo (natAbs l) part ⌝ }
 {
-    whole::rnd_short_quotient(part * UNIT, l)
+    rounding::rnd_short_quotient(part * UNIT, l)
 }
 
 // Whether v is accepted: its squared length is within 2^32 of 2^60, both ends included.

@@ -42,7 +42,7 @@ fn scaled(k: i64, part: i64) -> i64
     requires { ⌜ ScaledFits k part ⌝ }
     ensures { λ r. ⌜ r ≡ rnd (k *ℤ part) unit ⌝ }
 {
-    whole::rnd_quotient(k * part, UNIT)
+    rounding::rnd_quotient(k * part, UNIT)
 }
 
 // 4. What aberration adds, of the pairs of the Sun's longitude and of ε.

@@ -1,8 +1,8 @@
 // Polynomials in time by document 01's rule, for any coefficients: from the highest down, multiply
 // by t, Rnd by Q, add the next. Coefficients in µas, constant first.
 
-use whole::rnd_product_quotient;
-use whole::rnd_quotient;
+use rounding::rnd_product_quotient;
+use rounding::rnd_quotient;
 ghost use mathlib.Core.Path.{_≡_};
 ghost use mathlib.Core.List.{List, [], _∷_};
 ghost use lib.IntN.{ℤ};

@@ -1,5 +1,7 @@
 -- No second answer fits, nor a second content of lent memory: of each public function, by its contract.
 pub mod Whole
+pub mod Rounding
+pub mod Roots
 pub mod Refusals
 pub mod Length
 pub mod Circle

@@ -19,7 +19,7 @@ fn arc_stage(w: i64, k: i64, p: i64) -> i64
     requires { ⌜ StageGiven w k p ⌝ }
     ensures { λ r. ⌜ r ≡ rule.arcStage w (natAbs k) p ⌝ }
 {
-    whole::rnd_quotient(UNIT, k) - whole::rnd_by_unit(w * p)
+    rounding::rnd_quotient(UNIT, k) - rounding::rnd_by_unit(w * p)
 }
 
 // The arc's row: θ over u.
@@ -27,7 +27,7 @@ fn arc_factor(w: i64) -> i64
     requires { ⌜ UpTo w unit ⌝ }
     ensures { λ r. ⌜ r ≡ rule.arcStages w rule.arcRow (rnd (pos unit) 23) ⌝ }
 {
-    let p = whole::rnd_quotient(UNIT, 23);
+    let p = rounding::rnd_quotient(UNIT, 23);
     let p = arc_stage(w, 21, p);
     let p = arc_stage(w, 19, p);
     let p = arc_stage(w, 17, p);
@@ -47,7 +47,7 @@ pub fn arc(u: i64) -> i64
     ensures { λ r. ⌜ r ≡ rule.arc u ⌝ }
 {
     let w = rows::square_parts(u);
-    whole::rnd_by_unit(u * arc_factor(w))
+    rounding::rnd_by_unit(u * arc_factor(w))
 }
 
 // Rnd(θ * 648,000,000,000 / 3,373,259,426): radians to µas. The product passes the word, so it is
@@ -56,5 +56,5 @@ pub fn in_microarcseconds(t: i64) -> i64
     requires { ⌜ UpTo t unit ⌝ }
     ensures { λ r. ⌜ r ≡ rule.inMicroarcseconds t ⌝ }
 {
-    whole::rnd_product_quotient(HALF, t, HALF_IN_PARTS)
+    rounding::rnd_product_quotient(HALF, t, HALF_IN_PARTS)
 }

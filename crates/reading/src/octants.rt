@@ -20,7 +20,7 @@ fn ratio_of(a: i64, b: i64) -> i64
     requires { ⌜ RatioGiven a b ⌝ }
     ensures { λ r. ⌜ r ≡ ratio (natAbs a) (natAbs b) ⌝ }
 {
-    whole::rnd_short_quotient(a * UNIT, b)
+    rounding::rnd_short_quotient(a * UNIT, b)
 }
 
 // From m, the smaller size, and n, the larger: the angle from 0 to half a quarter.
@@ -81,6 +81,6 @@ pub fn height_of(x: i64, y: i64, z: i64) -> i64
     requires { ⌜ HeightGiven (record { x = x; y = y; z = z }) ⌝ }
     ensures { λ r. ⌜ r ≡ rule.height (record { x = x; y = y; z = z }) ⌝ }
 {
-    let a = reading_of(whole::whole_root(x * x + y * y), z);
+    let a = reading_of(roots::whole_root(x * x + y * y), z);
     if HALF < a { a - CIRCLE } else { a }
 }

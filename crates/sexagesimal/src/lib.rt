@@ -7,8 +7,8 @@ ghost use lib.Seq.{sets};
 ghost use Rattle.sexagesimal.specs.Sexagesimal.{spaced};
 ghost use Rattle.sexagesimal.specs.Sexagesimal as rule;
 use decimals::put_digits;
+use rounding::rnd_quotient;
 use whole::modulo_of;
-use whole::rnd_quotient;
 
 // A byte, and then the last digits of n.
 pub fn put_marked(mark: u8, n: i64, digits: usize, at: usize, out: &mut [u8]) -> usize

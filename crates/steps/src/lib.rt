@@ -28,7 +28,7 @@ fn moved(t: Tt, angle: i64, motion: i32) -> i64
     requires { ⌜ MotionFits t angle motion ⌝ }
     ensures { λ r. ⌜ r ≡ rule.moved t angle motion ⌝ }
 {
-    angle + whole::rnd_product_quotient(t.0, motion as i64, YEAR)
+    angle + rounding::rnd_product_quotient(t.0, motion as i64, YEAR)
 }
 
 // 2. The direction of a right ascension and a declination, which may lie past the pole.

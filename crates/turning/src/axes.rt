@@ -26,8 +26,8 @@ fn turn_3(v: Direction, p: Pair) -> Direction
     ensures { λ r. ⌜ r ≡ turn3 p v ⌝ }
 {
     Direction {
-        x: whole::rnd_by_unit(p.cosine * v.x - p.sine * v.y),
-        y: whole::rnd_by_unit(p.sine * v.x + p.cosine * v.y),
+        x: rounding::rnd_by_unit(p.cosine * v.x - p.sine * v.y),
+        y: rounding::rnd_by_unit(p.sine * v.x + p.cosine * v.y),
         z: v.z,
     }
 }

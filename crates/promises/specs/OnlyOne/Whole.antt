@@ -7,36 +7,12 @@ use prog.Wp.{Heap}
 use ghost.Atoms.{Atoms}
 use contract.Monad.{Fun}
 use Rattle.promises.specs.Contracts.{OneAnswer, one}
-use Rattle.whole.proofs.rnd_quotient as rnd-quotient
-use Rattle.whole.proofs.rnd_short_quotient as rnd-short-quotient
-use Rattle.whole.proofs.rnd_by_unit as rnd-by-unit
-use Rattle.whole.proofs.rnd_product_quotient as rnd-product-quotient
-use Rattle.whole.proofs.whole_root as whole-root
-use Rattle.whole.proofs.length_root as length-root
 use Rattle.whole.proofs.modulo_of as modulo-of
 use Rattle.whole.proofs.on_circle as on-circle
 use Rattle.whole.proofs.is_between as is-between
 use Rattle.whole.proofs.size_of as size-of
 
 module _ {M : Type 1} (𝓤 : URA M) (H : Heap 𝓤) (A : Atoms 𝓤) (mem : Memory → SProp 𝓤) (run : Routine → Fun 𝓤) where
-  pub rnd-quotient-one : OneAnswer 𝓤 rnd-quotient.ended (rnd-quotient.clauses 𝓤 H A mem run)
-  rnd-quotient-one κs passed g r s x y = one 𝓤 r s _
-
-  pub rnd-short-quotient-one : OneAnswer 𝓤 rnd-short-quotient.ended (rnd-short-quotient.clauses 𝓤 H A mem run)
-  rnd-short-quotient-one κs passed g r s x y = one 𝓤 r s _
-
-  pub rnd-by-unit-one : OneAnswer 𝓤 rnd-by-unit.ended (rnd-by-unit.clauses 𝓤 H A mem run)
-  rnd-by-unit-one κs passed g r s x y = one 𝓤 r s _
-
-  pub rnd-product-quotient-one : OneAnswer 𝓤 rnd-product-quotient.ended (rnd-product-quotient.clauses 𝓤 H A mem run)
-  rnd-product-quotient-one κs passed g r s x y = one 𝓤 r s _
-
-  pub whole-root-one : OneAnswer 𝓤 whole-root.ended (whole-root.clauses 𝓤 H A mem run)
-  whole-root-one κs passed g r s x y = one 𝓤 r s _
-
-  pub length-root-one : OneAnswer 𝓤 length-root.ended (length-root.clauses 𝓤 H A mem run)
-  length-root-one κs passed g r s x y = one 𝓤 r s _
-
   pub modulo-of-one : OneAnswer 𝓤 modulo-of.ended (modulo-of.clauses 𝓤 H A mem run)
   modulo-of-one κs passed g r s x y = one 𝓤 r s _
 

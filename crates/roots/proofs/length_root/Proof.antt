@@ -1,4 +1,4 @@
--- `whole::length_root` meets its contract: both ways give the root.
+-- `roots::length_root` meets its contract: both ways give the root.
 use mathlib.Core.Path.{_≡_, refl, sym, _∙_}
 use mathlib.Core.Bool.{true}
 use native.Mathlib.Omega.{arith}
@@ -8,9 +8,9 @@ use mir.Facts.{toZ-ofZ}
 use Rattle.rules.specs.Units.{between}
 use Rattle.laws.specs.Units.{between-parts}
 use Rattle.words.specs.Fits.{held64}
-use Rattle.whole.specs.NearSquare.{NearSquare}
-use Rattle.whole.proofs.length_root.Statement.{statement}
-use Rattle.whole.proofs.length_root.Tie as tie
+use Rattle.roots.specs.NearSquare.{NearSquare}
+use Rattle.roots.proofs.length_root.Statement.{statement}
+use Rattle.roots.proofs.length_root.Tie as tie
 
 near : (n : ℤ) → between (pos 1152921367167897600) (pos 1152921642045804543) n ≡ true → NearSquare n
 near (pos n) e =

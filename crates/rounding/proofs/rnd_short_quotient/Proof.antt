@@ -1,4 +1,4 @@
--- `whole::rnd_short_quotient` meets its contract: rounding is odd, so the law of sizes gives both signs.
+-- `rounding::rnd_short_quotient` meets its contract: rounding is odd, so the law of sizes gives both signs.
 use Prim.Native.Nat.{suc, _+_, _/_, _^_}
 use mathlib.Core.Path.{_≡_, ap, _∙_}
 use mathlib.Core.Bool.{true, false}
@@ -12,9 +12,9 @@ use Rattle.integers.specs.Sign.{neg-add-neg}
 use Rattle.words.specs.Holds.{Holds, bits, _/ʷ_, arg, lit, add, add-ok, sub, sub-ok, div, div-ok, div-lit}
 use Rattle.rules.specs.Rounding.{rnd}
 use Rattle.laws.specs.Rounding.{rnd-pos}
-use Rattle.whole.proofs.Half.{rndSize-by-half}
-use Rattle.whole.proofs.rnd_short_quotient.Statement.{statement}
-use Rattle.whole.proofs.rnd_short_quotient.Tie as tie
+use Rattle.rounding.proofs.Half.{rndSize-by-half}
+use Rattle.rounding.proofs.rnd_short_quotient.Statement.{statement}
+use Rattle.rounding.proofs.rnd_short_quotient.Tie as tie
 
 -- ---- half of the divisor more, rounded down
 

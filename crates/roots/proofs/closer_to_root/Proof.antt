@@ -1,4 +1,4 @@
--- `whole::closer_to_root` meets its contract: no number is negative, and n / trial is at most two above the trial.
+-- `roots::closer_to_root` meets its contract: no number is negative, and n / trial is at most two above the trial.
 use mathlib.Core.Path.{_≡_, sym}
 use Prim.Native.Nat.{ℕ, _+_, _*_, _/_, _-_, _≤_, _<_, _^_}
 use native.Mathlib.Nat.{div-lt-iff-lt-mul}
@@ -9,8 +9,8 @@ use lib.Signed.{_<ℤ_, pos-natAbs, yes-nonNeg, ltZ-yes}
 use Rattle.words.specs.Fits.{size64-lt}
 use Rattle.words.specs.Holds.{Holds, bits, _+ʷ_, _/ʷ_, got, lit, bounded, add, add-ok, div, div-ok}
 use Rattle.laws.specs.Root.{closer}
-use Rattle.whole.proofs.closer_to_root.Statement.{statement}
-use Rattle.whole.proofs.closer_to_root.Tie as tie
+use Rattle.roots.proofs.closer_to_root.Statement.{statement}
+use Rattle.roots.proofs.closer_to_root.Tie as tie
 
 abbrev number : tie.Start → ℕ
 number c = natAbs (c .args .n)

@@ -1,4 +1,4 @@
--- `whole::rnd_by_unit` meets its contract: a shift rounds down, so below nought the half to be added is one less.
+-- `rounding::rnd_by_unit` meets its contract: a shift rounds down, so below nought the half to be added is one less.
 use Prim.Native.Nat.{ℕ, suc, _+_, _-_, _/_, _≤_, _^_}
 use mathlib.Core.Path.{_≡_, sym, ap, _∙_}
 use native.Mathlib.Decide.{decLe}
@@ -16,9 +16,9 @@ use Rattle.words.specs.Fits.{fits64}
 use Rattle.words.specs.Holds.{Holds, bits, _+ʷ_, arg, lit, add, add-ok}
 use Rattle.rules.specs.Units.{unit}
 use Rattle.rules.specs.Rounding.{rnd, rndSize}
-use Rattle.whole.proofs.Half.{rndSize-by-half}
-use Rattle.whole.proofs.rnd_by_unit.Statement.{statement}
-use Rattle.whole.proofs.rnd_by_unit.Tie as tie
+use Rattle.rounding.proofs.Half.{rndSize-by-half}
+use Rattle.rounding.proofs.rnd_by_unit.Statement.{statement}
+use Rattle.rounding.proofs.rnd_by_unit.Tie as tie
 
 abbrev half : ℕ
 half = 536870912

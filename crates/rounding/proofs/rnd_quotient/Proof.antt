@@ -1,4 +1,4 @@
--- `whole::rnd_quotient` meets its contract: any dividend fits, so each part is shown to fit by its own law.
+-- `rounding::rnd_quotient` meets its contract: any dividend fits, so each part is shown to fit by its own law.
 use Prim.Native.Nat.{ℕ, _*_, _^_}
 use mathlib.Core.Path.{_≡_}
 use native.Mathlib.Omega.{arith}
@@ -13,8 +13,8 @@ use Rattle.integers.specs.Size.{abs-mul}
 use Rattle.integers.specs.Quotient.{rem-lt, size-pos}
 use Rattle.words.specs.Fits.{fits64, quot-fits, rem-fits, quot-ok}
 use Rattle.laws.specs.Rounding.{rnd-by-quotients, mag-rnd}
-use Rattle.whole.proofs.rnd_quotient.Statement.{statement}
-use Rattle.whole.proofs.rnd_quotient.Tie as tie
+use Rattle.rounding.proofs.rnd_quotient.Statement.{statement}
+use Rattle.rounding.proofs.rnd_quotient.Tie as tie
 
 -- what fits on the way
 record Fit (a b : ℤ) : Type 0 where

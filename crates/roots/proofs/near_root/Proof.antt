@@ -1,4 +1,4 @@
--- `whole::near_root` meets its contract: with q the quotient, LOW + q is not above the root, and LOW + q + 2 is.
+-- `roots::near_root` meets its contract: with q the quotient, LOW + q is not above the root, and LOW + q + 2 is.
 use Prim.Native.Nat.{ℕ, _+_, _*_, _-_, _/_, _≤_, _<_, _^_}
 use mathlib.Core.Path.{_≡_, sym, ap, _∙_}
 use native.Mathlib.Nat.{mul-le-mul-left, lt-div-mul-add, div-mul-le-self}
@@ -11,8 +11,8 @@ use mir.Val.{toZ}
 use Rattle.words.specs.Holds.{Holds, bits, _+ʷ_, _-ʷ_, _*ʷ_, _/ʷ_, got, lit, bounded, add, add-ok, sub-nat, sub-nat-ok}
 use Rattle.words.specs.Holds.{mul, mul-ok, div-ok, div-lit}
 use Rattle.laws.specs.Root.{is-root}
-use Rattle.whole.proofs.near_root.Statement.{statement}
-use Rattle.whole.proofs.near_root.Tie as tie
+use Rattle.roots.proofs.near_root.Statement.{statement}
+use Rattle.roots.proofs.near_root.Tie as tie
 
 abbrev low : ℕ
 low = 1073741760

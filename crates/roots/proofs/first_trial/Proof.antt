@@ -1,4 +1,4 @@
--- `whole::first_trial` meets its contract.
+-- `roots::first_trial` meets its contract.
 use mathlib.Core.Path.{_≡_, refl, sym}
 use mathlib.Core.Bool.{true}
 use native.Mathlib.Omega.{arith}
@@ -8,8 +8,8 @@ use lib.Signed.{ltZ, pos-natAbs, yes-nonNeg}
 use borrow.Author.Tests.{ltb-true}
 use mir.Facts.{toZ-ofZ}
 use Rattle.words.specs.Fits.{size64-lt}
-use Rattle.whole.proofs.first_trial.Statement.{statement}
-use Rattle.whole.proofs.first_trial.Tie as tie
+use Rattle.roots.proofs.first_trial.Statement.{statement}
+use Rattle.roots.proofs.first_trial.Tie as tie
 
 returns : tie.Need-returns
 returns c =

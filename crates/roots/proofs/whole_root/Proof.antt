@@ -1,4 +1,4 @@
--- `whole::whole_root` meets its contract. The invariant: the trial is not below the root, and `next` is the step after
+-- `roots::whole_root` meets its contract. The invariant: the trial is not below the root, and `next` is the step after
 -- it; the measure is the trial. No number is negative, so that each local holds its number, and all is said over ℕ.
 use Prim.Native.Nat.{ℕ, zero, suc, _+_, _*_, _/_, _<_, _≤_, _^_}
 use mathlib.Core.Path.{_≡_, refl, sym, ap, _∙_, subst}
@@ -12,9 +12,9 @@ use mir.Val.{ofZ, toZ}
 use mir.Facts.{toZ-ofZ, toZ-pos}
 use Rattle.words.specs.Fits.{size64-lt, held64}
 use Rattle.laws.specs.Root.{closer, closer-above, closer-root, is-root}
-use Rattle.whole.specs.Trial.{Trial}
-use Rattle.whole.proofs.whole_root.Statement.{statement}
-use Rattle.whole.proofs.whole_root.Tie as tie
+use Rattle.roots.specs.Trial.{Trial}
+use Rattle.roots.proofs.whole_root.Statement.{statement}
+use Rattle.roots.proofs.whole_root.Tie as tie
 
 abbrev Inv-loop : tie.InvT-loop
 Inv-loop n trial₀ next₀ trial next =
