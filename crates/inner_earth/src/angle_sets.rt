@@ -1,4 +1,4 @@
-// Several angles of an instant, of the crate `earth`.
+// Several angles of an instant, of the crates `precession`, `arguments` and `nutation`.
 
 use rules::Argued;
 use rules::Nutated;
@@ -44,7 +44,7 @@ pub struct InnerNutated {
 pub extern "C" fn inner_precession(tt: i64) -> InnerPrecessed
     ensures { λ r. ⌜ r ≡ innerPrecessed (precessedAnswer (precessionAt (inTt tt))) ⌝ }
 {
-    precessed_out(earth::precession::precession(Tt(tt)))
+    precessed_out(precession::precession(Tt(tt)))
 }
 
 // The five arguments of nutation at a TT instant.
@@ -52,7 +52,7 @@ pub extern "C" fn inner_precession(tt: i64) -> InnerPrecessed
 pub extern "C" fn inner_arguments(tt: i64) -> InnerArgued
     ensures { λ r. ⌜ r ≡ innerArgued (arguedAnswer (argumentsAt (inTt tt))) ⌝ }
 {
-    argued_out(earth::arguments::arguments(Tt(tt)))
+    argued_out(arguments::arguments(Tt(tt)))
 }
 
 // Nutation at a TT instant.

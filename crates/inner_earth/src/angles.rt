@@ -1,4 +1,4 @@
-// An angle of an instant, of the crate `earth`.
+// An angle of an instant, of the crates `precession`, `sun` and `sidereal`.
 
 use rules::Angle;
 use rules::Tt;
@@ -23,7 +23,7 @@ pub struct InnerAngle {
 pub extern "C" fn inner_obliquity(tt: i64) -> InnerAngle
     ensures { λ r. ⌜ r ≡ innerAngle (angleAnswer (obliquityAt (inTt tt))) ⌝ }
 {
-    angle_out(earth::precession::obliquity(Tt(tt)))
+    angle_out(precession::obliquity(Tt(tt)))
 }
 
 // The Sun's longitude at a TT instant.
@@ -39,7 +39,7 @@ pub extern "C" fn inner_sun(tt: i64) -> InnerAngle
 pub extern "C" fn inner_sidereal(ut: i64) -> InnerAngle
     ensures { λ r. ⌜ r ≡ innerAngle (angleAnswer (siderealAt (inUt ut))) ⌝ }
 {
-    angle_out(earth::sidereal::sidereal(Ut(ut)))
+    angle_out(sidereal::sidereal(Ut(ut)))
 }
 
 fn angle_out(a: Angle) -> InnerAngle

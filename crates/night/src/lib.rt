@@ -71,9 +71,9 @@ pub fn night_at(ut: Ut, tt: Tt, site: Site) -> Night
     requires { ⌜ SiteFits ut tt site ⌝ }
     ensures { λ r. ⌜ r ≡ rule.night ut tt site ⌝ }
 {
-    let p = earth::precession::precession_of(tt);
+    let p = precession::precession_of(tt);
     let n = nutation::nutation_of(tt);
-    let epsilon = earth::precession::obliquity_of(tt);
+    let epsilon = precession::obliquity_of(tt);
     let mean = circle::pair(epsilon);
     Night {
         tt,

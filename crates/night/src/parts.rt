@@ -64,7 +64,7 @@ pub fn sidereal_pair(ut: Ut, nutation: i64, cosine: i64, longitude: i64) -> Pair
     requires { ⌜ LocalFits ut nutation cosine longitude ⌝ }
     ensures { λ r. ⌜ r ≡ pair (remainder (negℤ (sidereal ut +ℤ rnd (nutation *ℤ cosine) unit +ℤ longitude))) ⌝ }
 {
-    let local = earth::sidereal::sidereal_of(ut) + scaled(nutation, cosine) + longitude;
+    let local = sidereal::sidereal_of(ut) + scaled(nutation, cosine) + longitude;
     circle::pair(-local % CIRCLE)
 }
 

@@ -1,8 +1,8 @@
 // Nutation by its ten largest terms, of TT.
 
 use crate::terms::term_at;
+use arguments::arguments_of;
 use circle::pair;
-use earth::arguments::arguments_of;
 use polynomials::linear;
 use polynomials::refused_instant;
 use rounding::rnd_quotient;

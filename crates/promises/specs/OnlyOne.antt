@@ -8,7 +8,9 @@ pub mod Circle
 pub mod Reading
 pub mod Turning
 pub mod Polynomials
-pub mod Earth
+pub mod Arguments
+pub mod Precession
+pub mod Sidereal
 pub mod Sun
 pub mod Nutation
 pub mod Calendar

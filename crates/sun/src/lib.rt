@@ -1,7 +1,7 @@
 // The Sun's longitude, of TT.
 
+use arguments::sun_of;
 use circle::pair;
-use earth::arguments::sun_of;
 use polynomials::linear;
 use polynomials::quadratic;
 use polynomials::refused_instant;

@@ -1,4 +1,4 @@
--- `place_lines::asking::asked_of` meets its contract.
+-- `asking::asked_of` meets its contract.
 use mathlib.Core.Path.{_≡_, sym, ap, _∙_}
 use mathlib.Core.List.{List}
 use Prim.Native.Nat.{ℕ, _+_, _≤_}

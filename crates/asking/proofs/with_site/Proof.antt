@@ -1,4 +1,4 @@
--- `place_lines::asking::with_site` meets its contract.
+-- `asking::with_site` meets its contract.
 use mathlib.Core.Path.{_≡_, sym, ap, _∙_}
 use mathlib.Core.Bool.{Bool, true, false}
 use mathlib.Core.List.{List}

@@ -1,4 +1,4 @@
--- `place_lines::asking::word_length` meets its contract. What is passed, with the word in the bytes left, is the word;
+-- `asking::word_length` meets its contract. What is passed, with the word in the bytes left, is the word;
 -- the measure is the bytes left.
 use mathlib.Core.Path.{_≡_, _∙_}
 use Prim.Native.Nat.{ℕ, _+_, _-_, _≤_}

@@ -1,4 +1,4 @@
--- `lines::decimals::last_digit` meets its contract.
+-- `decimals::last_digit` meets its contract.
 use mathlib.Core.Path.{_≡_, refl, _∙_}
 use mathlib.Core.Bool.{true, false}
 use Prim.Native.Nat.{ℕ, _+_, _-_, _%_, _≤_, _<_}

@@ -1,4 +1,4 @@
--- `lines::decimals::put` meets its contract.
+-- `decimals::put` meets its contract.
 use mathlib.Core.Path.{_≡_, _∙_, ap}
 use mathlib.Core.List.{List, _∷_}
 use Prim.Native.Nat.{ℕ, _≤_, _<_}

@@ -1,4 +1,4 @@
--- `lines::decimals::put_digits` meets its contract. What is done, with the digits left, is the whole; the measure is
+-- `decimals::put_digits` meets its contract. What is done, with the digits left, is the whole; the measure is
 -- the
 -- digits left.
 use mathlib.Core.Path.{_≡_, refl, _∙_}

@@ -1,4 +1,4 @@
--- `lines::decimals::width` meets its contract. The digits counted, and those of the rest, are one more than the answer;
+-- `decimals::width` meets its contract. The digits counted, and those of the rest, are one more than the answer;
 -- the
 -- measure is the digits that may come.
 use mathlib.Core.Path.{_≡_, refl, _∙_}

@@ -1,4 +1,4 @@
--- `lines::fields::alike` meets its contract.
+-- `fields::alike` meets its contract.
 use mathlib.Core.Path.{sym, _∙_}
 use borrow.Author.Needs.{needs}
 use Rattle.rules.specs.Lines.{alike}

@@ -1,4 +1,4 @@
--- `lines::fields::difference` meets its contract: what 4 digits spell fits.
+-- `fields::difference` meets its contract: what 4 digits spell fits.
 use mathlib.Core.Path.{_≡_, _∙_}
 use Prim.Native.Nat.{_≤_}
 use native.Mathlib.Omega.{arith}

@@ -1,4 +1,4 @@
--- `lines::fields::field` meets its contract.
+-- `fields::field` meets its contract.
 use mathlib.Core.Path.{_≡_, _∙_}
 use mathlib.Core.List.{List}
 use Prim.Native.Nat.{ℕ, _+_, _-_, _≤_}

@@ -1,4 +1,4 @@
--- `lines::fields::of_form` meets its contract. The bytes passed are of the form; the measure is the bytes left.
+-- `fields::of_form` meets its contract. The bytes passed are of the form; the measure is the bytes left.
 use mathlib.Core.Path.{_≡_, refl, sym, _∙_}
 use mathlib.Core.Bool.{Bool, true, false, _&&_}
 use mathlib.Core.List.{List}

@@ -1,4 +1,4 @@
--- `inner::dates::date_out` meets its contract.
+-- `inner_dates::date_out` meets its contract.
 use mathlib.Core.Path.{_∙_}
 use borrow.Author.Needs.{needs}
 use mir.Syntax.{w32}

@@ -1,4 +1,4 @@
--- `inner::dates::inner_day_of` meets its contract.
+-- `inner_dates::inner_day_of` meets its contract.
 use mathlib.Core.Path.{ap, _∙_}
 use borrow.Author.Needs.{needs}
 use mir.Facts.{toZ-ofZ}

@@ -1,4 +1,4 @@
--- `inner::dates::instants_out` meets its contract.
+-- `inner_dates::instants_out` meets its contract.
 use mathlib.Core.Path.{_≡_, _∙_}
 use borrow.Author.Needs.{needs}
 use mir.Syntax.{w64}

@@ -1,4 +1,4 @@
--- `turning::length::length_of` meets its contract.
+-- `length::length_of` meets its contract.
 use mathlib.Core.Path.{_≡_, _∙_}
 use borrow.Author.Needs.{needs}
 use native.Mathlib.Omega.{arith}

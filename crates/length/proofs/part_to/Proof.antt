@@ -1,4 +1,4 @@
--- `turning::length::part_to` meets its contract.
+-- `length::part_to` meets its contract.
 use Prim.Native.Nat.{_*_, _^_}
 use mathlib.Core.Path.{_∙_}
 use native.Mathlib.Omega.{arith}

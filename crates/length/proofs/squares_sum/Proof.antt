@@ -1,4 +1,4 @@
--- `turning::length::squares_sum` meets its contract: each square, and each sum of squares, is at most the whole sum.
+-- `length::squares_sum` meets its contract: each square, and each sum of squares, is at most the whole sum.
 use Prim.Native.Nat.{ℕ, _*_, _-_, _≤_, _<_, _^_}
 use mathlib.Core.Path.{_∙_}
 use native.Mathlib.Omega.{arith}

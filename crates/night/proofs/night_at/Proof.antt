@@ -1,4 +1,4 @@
--- `place::night::night_at` meets its contract: each call's result is the rule's, and what it is given fits.
+-- `night::night_at` meets its contract: each call's result is the rule's, and what it is given fits.
 use mathlib.Core.Path.{_≡_, sym, ap, _∙_}
 use Prim.Native.Nat.{_+_, _^_}
 use native.Mathlib.Omega.{arith}

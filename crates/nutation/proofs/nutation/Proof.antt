@@ -1,4 +1,4 @@
--- `earth::nutation::nutation` meets its contract.
+-- `nutation::nutation` meets its contract.
 use mathlib.Core.Path.{_≡_, sym, _∙_}
 use mathlib.Core.Bool.{true, false}
 use borrow.Author.Needs.{needs, sfits-of}

@@ -1,4 +1,4 @@
--- `earth::nutation::nutation_of` meets its contract. The sums hold the products of the terms passed; the measure is the
+-- `nutation::nutation_of` meets its contract. The sums hold the products of the terms passed; the measure is the
 -- terms left.
 use mathlib.Core.Path.{_≡_, ap, sym, subst, _∙_}
 use mathlib.Core.List.{map}

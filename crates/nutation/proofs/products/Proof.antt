@@ -1,4 +1,4 @@
--- `earth::nutation::products` meets its contract.
+-- `nutation::products` meets its contract.
 use mathlib.Core.Path.{_≡_, ap, _∙_}
 use Prim.Native.Nat.{_*_, _≤_, _^_}
 use native.Mathlib.Omega.{arith}

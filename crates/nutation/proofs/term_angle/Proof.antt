@@ -1,4 +1,4 @@
--- `earth::nutation::term_angle` meets its contract: five products, each far within the word, and their sum.
+-- `nutation::term_angle` meets its contract: five products, each far within the word, and their sum.
 use Prim.Native.Nat.{_+_, _≤_, _^_}
 use native.Mathlib.Omega.{arith}
 use lib.IntN.{ℤ, natAbs, _+ℤ_, _*ℤ_}

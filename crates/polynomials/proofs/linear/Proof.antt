@@ -1,4 +1,4 @@
--- `earth::polynomials::linear` meets its contract.
+-- `polynomials::linear` meets its contract.
 use Prim.Native.Nat.{_*_, _^_}
 use native.Mathlib.Omega.{arith}
 use borrow.Author.Needs.{needs}

@@ -1,4 +1,4 @@
--- `earth::polynomials::quadratic` meets its contract.
+-- `polynomials::quadratic` meets its contract.
 use mathlib.Core.Path.{_≡_, _∙_}
 use mathlib.Core.List.{[], _∷_}
 use mir.Syntax.{w64}

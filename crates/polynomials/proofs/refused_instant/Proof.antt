@@ -1,4 +1,4 @@
--- `earth::instant::refused_instant` meets its contract.
+-- `polynomials::refused_instant` meets its contract.
 use mathlib.Core.Path.{_≡_, ap}
 use mathlib.Core.Bool.{not}
 use borrow.Author.Needs.{needs}

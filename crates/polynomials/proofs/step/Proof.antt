@@ -1,4 +1,4 @@
--- `earth::polynomials::step` meets its contract.
+-- `polynomials::step` meets its contract.
 use mathlib.Core.Path.{_≡_}
 use Prim.Native.Nat.{_^_}
 use native.Mathlib.Nat.{mul-le-mul}

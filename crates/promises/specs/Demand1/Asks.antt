@@ -18,12 +18,12 @@ use Rattle.module.proofs.lists.turbelicus_list_write as turbelicus-list-write
 use Rattle.calendar.proofs.day_of as day-of
 use Rattle.calendar.proofs.date_of as date-of
 use Rattle.instants.proofs.instants as instants
-use Rattle.earth.proofs.precession.precession as precession
-use Rattle.earth.proofs.precession.obliquity as obliquity
-use Rattle.earth.proofs.arguments.arguments as arguments
+use Rattle.precession.proofs.precession as precession
+use Rattle.precession.proofs.obliquity as obliquity
+use Rattle.arguments.proofs.arguments as arguments
 use Rattle.nutation.proofs.nutation as nutation
 use Rattle.sun.proofs.sun_longitude as sun-longitude
-use Rattle.earth.proofs.sidereal.sidereal as sidereal
+use Rattle.sidereal.proofs.sidereal as sidereal
 use Rattle.circle.proofs.pair as pair
 use Rattle.reading.proofs.reading as reading
 use Rattle.turning.proofs.turn as turn

@@ -1,4 +1,4 @@
--- `place_lines::sexagesimal::put_bearing` meets its contract.
+-- `sexagesimal::put_bearing` meets its contract.
 use mathlib.Core.Path.{_≡_, ap, _∙_}
 use mathlib.Core.List.{List, _∷_}
 use Prim.Native.Nat.{ℕ, suc, _+_, _/_, _≤_}

@@ -1,4 +1,4 @@
--- `place_lines::sexagesimal::put_parts` meets its contract.
+-- `sexagesimal::put_parts` meets its contract.
 use mathlib.Core.Path.{_≡_}
 use mathlib.Core.List.{List, _++_}
 use Prim.Native.Nat.{ℕ, _+_, _≤_}

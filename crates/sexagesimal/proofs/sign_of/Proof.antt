@@ -1,4 +1,4 @@
--- `place_lines::sexagesimal::sign_of` meets its contract.
+-- `sexagesimal::sign_of` meets its contract.
 use mathlib.Core.Path.{_≡_, sym, ap, _∙_}
 use mathlib.Core.Bool.{Bool, true, false}
 use lib.IntN.{ℤ, pos}

@@ -1,4 +1,4 @@
--- `star_file::numbers::joined` meets its contract.
+-- `star_bytes::joined` meets its contract.
 use mathlib.Core.Path.{_≡_}
 use native.Mathlib.Omega.{arith}
 use lib.IntN.{pos, _*ℤ_}

@@ -1,4 +1,4 @@
--- `star_file::numbers::low_byte` meets its contract.
+-- `star_bytes::low_byte` meets its contract.
 use mathlib.Core.Path.{_≡_, refl, _∙_, ap}
 use Prim.Native.Nat.{_<_, _%_, _^_}
 use native.Mathlib.Omega.{arith}

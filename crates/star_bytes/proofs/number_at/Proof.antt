@@ -1,4 +1,4 @@
--- `star_file::numbers::number_at` meets its contract. The loop's invariant: v holds the number in the bytes from k on.
+-- `star_bytes::number_at` meets its contract. The loop's invariant: v holds the number in the bytes from k on.
 use mathlib.Core.Path.{_≡_, sym, _∙_, ap, subst}
 use Prim.Native.Nat.{_+_, _-_, _*_, _^_, _<_}
 use native.Mathlib.Omega.{arith}

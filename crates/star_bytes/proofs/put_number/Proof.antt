@@ -1,4 +1,4 @@
--- `star_file::numbers::put_number` meets its contract.
+-- `star_bytes::put_number` meets its contract.
 use mathlib.Core.Path.{_≡_, sym, _∙_, ap, subst}
 use Prim.Native.Nat.{ℕ, suc, _+_, _-_, _^_, _<_, _≤_}
 use native.Mathlib.Omega.{arith}

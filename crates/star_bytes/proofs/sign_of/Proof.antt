@@ -1,4 +1,4 @@
--- `star_file::numbers::sign_of` meets its contract.
+-- `star_bytes::sign_of` meets its contract.
 use borrow.Author.Tests.{lt-ltb, le-ltb}
 use Rattle.star_bytes.proofs.sign_of.Statement.{statement}
 use Rattle.star_bytes.proofs.sign_of.Tie as tie

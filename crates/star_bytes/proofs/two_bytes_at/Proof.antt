@@ -1,4 +1,4 @@
--- `star_file::numbers::two_bytes_at` meets its contract.
+-- `star_bytes::two_bytes_at` meets its contract.
 use mathlib.Core.Path.{_≡_, sym}
 use Prim.Native.Nat.{_+_, _*_}
 use native.Mathlib.Omega.{arith}

@@ -1,4 +1,4 @@
--- `star_file::writing::put_entry` meets its contract.
+-- `star_records::put_entry` meets its contract.
 use mathlib.Core.Path.{refl, ap, _∙_}
 use Prim.Native.Nat.{_+_, _*_}
 use borrow.Author.Needs.{needs, sfits-of}

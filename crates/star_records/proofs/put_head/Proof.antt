@@ -1,4 +1,4 @@
--- `star_file::writing::put_head` meets its contract.
+-- `star_records::put_head` meets its contract.
 use mathlib.Core.List.{[], _∷_}
 use mathlib.Core.Path.{_≡_, _∙_}
 use Prim.Native.Nat.{_/_, _%_}

@@ -1,4 +1,4 @@
--- `star_file::writing::put_pair` meets its contract.
+-- `star_records::put_pair` meets its contract.
 use mathlib.Core.List.{List, _++_}
 use mathlib.Core.Path.{_∙_, ap}
 use Prim.Native.Nat.{ℕ, _+_, _≤_}

@@ -1,4 +1,4 @@
--- `star_file::writing::put_star` meets its contract.
+-- `star_records::put_star` meets its contract.
 use mathlib.Core.List.{List, _++_}
 use mathlib.Core.Path.{_≡_, _∙_, ap}
 use Prim.Native.Nat.{ℕ, _+_, _≤_}

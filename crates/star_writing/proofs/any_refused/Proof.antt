@@ -1,4 +1,4 @@
--- `star_file::writing::any_refused` meets its contract.
+-- `star_writing::any_refused` meets its contract.
 use mathlib.Core.Path.{_≡_, refl, sym, ap, _∙_}
 use mathlib.Core.Bool.{false}
 use mathlib.Core.List.{[]}

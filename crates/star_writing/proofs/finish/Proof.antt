@@ -1,4 +1,4 @@
--- `star_file::writing::finish` meets its contract.
+-- `star_writing::finish` meets its contract.
 use mathlib.Core.Path.{_≡_, sym, _∙_}
 use mathlib.Core.List.{List}
 use Prim.Native.Nat.{ℕ}

@@ -1,4 +1,4 @@
--- `star_file::writing::list_write` meets its contract.
+-- `star_writing::list_write` meets its contract.
 use mathlib.Core.Path.{_≡_, sym, ap, _∙_}
 use mathlib.Core.Bool.{false}
 use mathlib.Core.List.{List, _++_}

@@ -1,4 +1,4 @@
--- `star_file::writing::put_stars` meets its contract.
+-- `star_writing::put_stars` meets its contract.
 use mathlib.Core.Path.{_≡_, sym, ap, _∙_}
 use mathlib.Core.List.{List, []}
 use Prim.Native.Nat.{ℕ, suc, _+_, _-_, _*_, _≤_}

@@ -1,4 +1,4 @@
--- `star_file::writing::tally` meets its contract.
+-- `star_writing::tally` meets its contract.
 use mathlib.Core.Path.{_≡_, sym, ap, _∙_}
 use mathlib.Core.Bool.{cond}
 use Prim.Native.Nat.{_+_}

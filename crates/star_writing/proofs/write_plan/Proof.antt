@@ -1,4 +1,4 @@
--- `star_file::writing::write_plan` meets its contract.
+-- `star_writing::write_plan` meets its contract.
 use borrow.Author.Needs.{needs}
 use borrow.Author.Tests.{eq-eqb, ne-eqb, lt-ltb, le-ltb}
 use Rattle.rules.specs.StarList.{fileLength, leaving, roomRefused, writtenOf}

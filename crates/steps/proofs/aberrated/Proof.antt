@@ -1,4 +1,4 @@
--- `place::steps::aberrated` meets its contract: what is added is small beside an accepted direction.
+-- `steps::aberrated` meets its contract: what is added is small beside an accepted direction.
 use mathlib.Core.Path.{_≡_, ap, _∙_}
 use Prim.Native.Nat.{_^_}
 use native.Mathlib.Omega.{arith}

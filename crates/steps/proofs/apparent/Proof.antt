@@ -1,4 +1,4 @@
--- `place::steps::apparent` meets its contract: a star that is not refused has small angles, and each step's direction is
+-- `steps::apparent` meets its contract: a star that is not refused has small angles, and each step's direction is
 -- accepted.
 use mathlib.Core.Path.{_≡_, ap, _∙_}
 use Prim.Native.Nat.{_^_}

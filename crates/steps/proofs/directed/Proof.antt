@@ -1,4 +1,4 @@
--- `place::steps::directed` meets its contract.
+-- `steps::directed` meets its contract.
 use mathlib.Core.Path.{_≡_, ap, _∙_}
 use Prim.Native.Nat.{_+_, _-_, _^_}
 use borrow.Author.Needs.{needs}

@@ -1,4 +1,4 @@
--- `place::steps::moved` meets its contract.
+-- `steps::moved` meets its contract.
 use mathlib.Core.Path.{_≡_, ap, _∙_}
 use Prim.Native.Nat.{_+_, _*_, _≤_, _^_}
 use native.Mathlib.Nat.{mul-le-mul}

@@ -1,4 +1,4 @@
--- `place::steps::overhead` meets its contract: each turn of an accepted direction is accepted.
+-- `steps::overhead` meets its contract: each turn of an accepted direction is accepted.
 use mathlib.Core.Path.{_≡_, ap, _∙_}
 use Rattle.rules.specs.Units.{+_}
 use Rattle.rules.specs.Turning.{turnBy}

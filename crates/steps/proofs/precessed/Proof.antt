@@ -1,4 +1,4 @@
--- `place::steps::precessed` meets its contract: each turn of an accepted direction is accepted.
+-- `steps::precessed` meets its contract: each turn of an accepted direction is accepted.
 use mathlib.Core.Path.{_≡_, ap, _∙_}
 use borrow.Author.Needs.{needs}
 use Rattle.rules.specs.declared.Direction.{Direction}

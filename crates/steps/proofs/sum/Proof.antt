@@ -1,4 +1,4 @@
--- `place::steps::sum` meets its contract.
+-- `steps::sum` meets its contract.
 use mathlib.Core.Path.{_≡_}
 use Prim.Native.Nat.{ℕ, _+_, _≤_, _^_}
 use lib.IntN.{ℤ, natAbs, _+ℤ_}

@@ -1,4 +1,4 @@
--- `earth::sun::centre_of` meets its contract: each product, and the three summed.
+-- `sun::centre_of` meets its contract: each product, and the three summed.
 use mathlib.Core.Path.{_≡_, _∙_}
 use Prim.Native.Nat.{ℕ, _+_, _*_}
 use borrow.Author.Needs.{needs}

@@ -1,4 +1,4 @@
--- `earth::sun::sine` meets its contract.
+-- `sun::sine` meets its contract.
 use mathlib.Core.Path.{_≡_, ap}
 use borrow.Author.Needs.{needs}
 use mir.Syntax.{w64}

@@ -1,4 +1,4 @@
--- `earth::sun::sun_longitude` meets its contract.
+-- `sun::sun_longitude` meets its contract.
 use mathlib.Core.Path.{_≡_, sym, _∙_}
 use mathlib.Core.Bool.{true, false}
 use borrow.Author.Needs.{needs, sfits-of}

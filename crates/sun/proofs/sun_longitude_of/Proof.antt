@@ -1,4 +1,4 @@
--- `earth::sun::sun_longitude_of` meets its contract.
+-- `sun::sun_longitude_of` meets its contract.
 use mathlib.Core.Path.{_≡_}
 use Prim.Native.Nat.{_+_}
 use borrow.Author.Needs.{needs}

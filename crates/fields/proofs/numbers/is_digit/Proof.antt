@@ -1,4 +1,4 @@
--- `lines::fields::is_digit` meets its contract.
+-- `fields::numbers::is_digit` meets its contract.
 use borrow.Author.Tests.{le-leb, lt-leb}
 use Rattle.rules.specs.Lines.{isDigit}
 use Rattle.fields.proofs.numbers.is_digit.Statement.{statement}

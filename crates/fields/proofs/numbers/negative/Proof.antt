@@ -1,4 +1,4 @@
--- `lines::fields::negative` meets its contract.
+-- `fields::numbers::negative` meets its contract.
 use mathlib.Core.Path.{sym}
 use native.Mathlib.Omega.{arith}
 use borrow.Author.Needs.{needs}

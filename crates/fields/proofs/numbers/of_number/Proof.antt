@@ -1,4 +1,4 @@
--- `lines::fields::of_number` meets its contract.
+-- `fields::numbers::of_number` meets its contract.
 use mathlib.Core.Path.{_≡_, sym, _∙_, ap}
 use mathlib.Core.Bool.{Bool, true, false}
 use Prim.Native.Nat.{_≤_}

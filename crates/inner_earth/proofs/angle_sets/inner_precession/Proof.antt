@@ -1,4 +1,4 @@
--- `inner::angle_sets::inner_precession` meets its contract.
+-- `inner_earth::angle_sets::inner_precession` meets its contract.
 use mathlib.Core.Path.{ap, _∙_}
 use borrow.Author.Needs.{needs}
 use mir.Facts.{toZ-ofZ}

@@ -1,4 +1,4 @@
--- `inner::angle_sets::nutated_out` meets its contract.
+-- `inner_earth::angle_sets::nutated_out` meets its contract.
 use mathlib.Core.Path.{_≡_, _∙_}
 use borrow.Author.Needs.{needs}
 use mir.Syntax.{w64}

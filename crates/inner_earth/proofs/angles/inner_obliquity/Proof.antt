@@ -1,4 +1,4 @@
--- `inner::angles::inner_obliquity` meets its contract.
+-- `inner_earth::angles::inner_obliquity` meets its contract.
 use mathlib.Core.Path.{ap, _∙_}
 use borrow.Author.Needs.{needs}
 use mir.Facts.{toZ-ofZ}

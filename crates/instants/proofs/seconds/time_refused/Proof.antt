@@ -1,4 +1,4 @@
--- `calendar::seconds::time_refused` meets its contract.
+-- `instants::seconds::time_refused` meets its contract.
 use mathlib.Core.Path.{_≡_, sym, _∙_}
 use mathlib.Core.Bool.{Bool, true, false}
 use lib.IntN.{pos}

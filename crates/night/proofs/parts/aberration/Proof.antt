@@ -1,4 +1,4 @@
--- `place::night::aberration` meets its contract.
+-- `night::parts::aberration` meets its contract.
 use mathlib.Core.Path.{_≡_, _∙_}
 use Prim.Native.Nat.{_^_}
 use native.Mathlib.Omega.{arith}

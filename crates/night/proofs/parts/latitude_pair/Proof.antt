@@ -1,4 +1,4 @@
--- `place::night::latitude_pair` meets its contract.
+-- `night::parts::latitude_pair` meets its contract.
 use mathlib.Core.Path.{_≡_}
 use Prim.Native.Nat.{_+_, _^_}
 use borrow.Author.Needs.{needs}

@@ -1,4 +1,4 @@
--- `place::night::opposite_of` meets its contract.
+-- `night::parts::opposite_of` meets its contract.
 use mathlib.Core.Path.{_≡_}
 use native.Mathlib.Omega.{arith}
 use Prim.Native.Nat.{_^_}

@@ -1,4 +1,4 @@
--- `place::night::scaled` meets its contract.
+-- `night::parts::scaled` meets its contract.
 use mathlib.Core.Path.{_≡_, _∙_}
 use Prim.Native.Nat.{_*_, _^_}
 use borrow.Author.Needs.{needs}

@@ -1,4 +1,4 @@
--- `place::night::sidereal_pair` meets its contract.
+-- `night::parts::sidereal_pair` meets its contract.
 use mathlib.Core.Path.{_≡_}
 use Prim.Native.Nat.{_+_, _*_, _≤_, _^_}
 use native.Mathlib.Nat.{mul-le-mul}

@@ -1,4 +1,4 @@
--- `circle::arcs::arc` meets its contract.
+-- `reading::arcs::arc` meets its contract.
 use Prim.Native.Nat.{_*_}
 use mathlib.Core.Path.{_∙_}
 use native.Mathlib.Omega.{arith}

@@ -1,4 +1,4 @@
--- `circle::arcs::arc_stage` meets its contract.
+-- `reading::arcs::arc_stage` meets its contract.
 use Prim.Native.Nat.{_*_, _<_}
 use native.Mathlib.Omega.{arith}
 use lib.Dec.{lit<, lt→ltb}

@@ -1,4 +1,4 @@
--- `circle::arcs::in_microarcseconds` meets its contract.
+-- `reading::arcs::in_microarcseconds` meets its contract.
 use mathlib.Core.Path.{_≡_, ap, _∙_}
 use mathlib.Core.List.{[], _∷_}
 use lib.IntN.{ℤ, pos, _*ℤ_}

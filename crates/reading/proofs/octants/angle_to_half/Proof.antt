@@ -1,4 +1,4 @@
--- `circle::octants::angle_to_half` meets its contract, in the two cases of the switch.
+-- `reading::octants::angle_to_half` meets its contract, in the two cases of the switch.
 use Prim.Native.Nat.{ℕ, _+_, _*_, _-_, _≤_, _<_, _^_}
 use native.Mathlib.Omega.{arith}
 use lib.IntN.{ℤ, pos, natAbs}

@@ -1,4 +1,4 @@
--- `circle::octants::angle_to_quarter` meets its contract.
+-- `reading::octants::angle_to_quarter` meets its contract.
 use Prim.Native.Nat.{ℕ, _≤_, _<_, _^_}
 use native.Mathlib.Omega.{arith}
 use lib.IntN.{pos, natAbs}

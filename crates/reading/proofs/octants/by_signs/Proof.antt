@@ -1,4 +1,4 @@
--- `circle::octants::by_signs` meets its contract.
+-- `reading::octants::by_signs` meets its contract.
 use mathlib.Core.Path.{_≡_}
 use mathlib.Core.Bool.{true, false}
 use lib.IntN.{pos}

@@ -1,4 +1,4 @@
--- `circle::octants::ratio_of` meets its contract.
+-- `reading::octants::ratio_of` meets its contract.
 use Prim.Native.Nat.{_*_, _≤_, _^_}
 use mathlib.Core.Path.{_∙_}
 use native.Mathlib.Omega.{arith}

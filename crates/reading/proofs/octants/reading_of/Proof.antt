@@ -1,4 +1,4 @@
--- `circle::octants::reading_of` meets its contract.
+-- `reading::octants::reading_of` meets its contract.
 use Prim.Native.Nat.{ℕ, _+_, _<_, _^_}
 use mathlib.Core.Path.{_≡_}
 use mathlib.Core.Bool.{true, false}

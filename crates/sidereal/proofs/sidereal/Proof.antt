@@ -1,0 +1,41 @@
+-- `sidereal::sidereal` meets its contract.
+use mathlib.Core.Path.{_≡_, sym, _∙_}
+use mathlib.Core.Bool.{true, false}
+use borrow.Author.Needs.{needs, sfits-of}
+use mir.Syntax.{w64}
+use mir.Val.{toZ, ofZ}
+use mir.Facts.{toZ-ofZ}
+use Rattle.rules.specs.Polynomials.{instantRefused, angleAt}
+use Rattle.rules.specs.Sidereal.{sidereal, siderealAt}
+use Rattle.laws.specs.Instant.{in-range}
+use Rattle.sidereal.proofs.sidereal.Statement.{statement}
+use Rattle.sidereal.proofs.sidereal.Tie as tie
+
+tested : (c : tie.After-refused-instant) → c .refused-instant .result ≡ instantRefused (c .before .before .args .t .0)
+tested c = rw (toZ-ofZ {w = w64} (sfits-of (c .before .struct-told .given .0 .1))) at (c .refused-instant .ensures)
+
+refused-instant-requires : tie.Need-refused-instant-requires
+refused-instant-requires c κs = search needs
+
+returns : tie.Need-returns
+unfolding siderealAt angleAt
+returns c =
+    let refused : instantRefused (c .before .before .before .args .t .0) ≡ true =
+    sym (tested (c .before)) ∙ c .if1 .taken in
+    simp refused
+
+sidereal-of-requires : tie.Need-sidereal-of-requires
+sidereal-of-requires c κs =
+    in-range (c .before .before .before .args .t .0) (sym (tested (c .before)) ∙ c .if1 .left)
+
+returns-2 : tie.Need-returns-2
+unfolding siderealAt angleAt
+returns-2 c =
+    let accepted : instantRefused (c .before .before .before .before .args .t .0) ≡ false =
+    sym (tested (c .before .before)) ∙ c .before .if1 .left in
+    let given : toZ w64 (ofZ w64 (c .sidereal-of .result)) ≡ sidereal (c .before .before .before .before .args .t) =
+    search needs ∙ c .sidereal-of .ensures in
+    simp (accepted, given)
+
+pub sidereal-spec : {M : Type 1} → statement M
+sidereal-spec = tie.close (tie.spec refused-instant-requires returns sidereal-of-requires returns-2)
