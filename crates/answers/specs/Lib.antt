@@ -1,2 +1,3 @@
--- The answers that C gets, in plain numbers.
+-- What C gives and gets, in plain numbers.
+pub mod Given
 pub mod Answers

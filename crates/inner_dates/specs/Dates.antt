@@ -2,23 +2,16 @@
 use lib.ListN.{getD}
 use lib.IntN.{ℤ, pos}
 use Rattle.rules.specs.declared.Date.{Date}
-use Rattle.rules.specs.declared.Moment.{Moment}
 use Rattle.rules.specs.Refusals.{Answer, instantsAnswer}
 use Rattle.rules.specs.Dates.{instants}
+use Rattle.answers.specs.Given.{momentOf}
 use Rattle.inner_dates.specs.declared.InnerDay.{InnerDay}
 use Rattle.inner_dates.specs.declared.InnerDate.{InnerDate}
 use Rattle.inner_dates.specs.declared.InnerInstants.{InnerInstants}
 
--- plain numbers as a date, as a moment
+-- plain numbers as a date
 abbrev pub inDate : ℤ → ℤ → ℤ → Date
 inDate y m d = record { year = y; month = m; day = d }
-
-abbrev pub inMoment : ℤ → ℤ → ℤ → ℤ → ℤ → ℤ → ℤ → ℤ → Moment
-inMoment y m d h min s ms diff = record {
-  date = inDate y m d;
-  time = record { hour = h; minute = min; second = s; ms = ms };
-  difference = diff;
-}
 
 -- the number, and the values in their order
 unfoldable pub innerDay : Answer → InnerDay
@@ -40,4 +33,4 @@ innerInstants a = record {
 }
 
 abbrev pub instantsOf : ℤ → ℤ → ℤ → ℤ → ℤ → ℤ → ℤ → ℤ → InnerInstants
-instantsOf y m d h min s ms diff = innerInstants (instantsAnswer (instants (inMoment y m d h min s ms diff)))
+instantsOf y m d h min s ms diff = innerInstants (instantsAnswer (instants (momentOf y m d h min s ms diff)))

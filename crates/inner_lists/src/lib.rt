@@ -14,7 +14,8 @@ ghost use mathlib.Core.Path.{_≡_};
 ghost use Rattle.rules.specs.Refusals.{listedAnswer};
 ghost use Rattle.rules.specs.StarList.{listRead, entriesAfterRead, listWritten, roomAfterWrite};
 ghost use Rattle.rules.specs.NightList.{nightList, entriesAfterNight};
-ghost use Rattle.inner_lists.specs.Lists.{innerListed, momentOf, siteOf};
+ghost use Rattle.answers.specs.Given.{momentOf, siteOf};
+ghost use Rattle.inner_lists.specs.Lists.{innerListed};
 
 // The refusal's number and nought, or 0 and the count: of records, of bytes, of entries marked 0.
 #[repr(C)]

@@ -12,7 +12,7 @@ ghost use lib.IntN.{ℤ};
 ghost use Rattle.rules.specs.Refusals.{placedAnswer};
 ghost use Rattle.rules.specs.Place as rule;
 ghost use Rattle.stars.specs.Numbers.{starOf};
-ghost use Rattle.module.specs.Given.{momentOf, siteOf};
+ghost use Rattle.answers.specs.Given.{momentOf, siteOf};
 ghost use Rattle.answers.specs.Answers.{placedOut};
 
 // The place of a star at a moment and a site.

@@ -8,7 +8,7 @@ ghost use lib.IntN.{ℤ};
 ghost use Rattle.rules.specs.Refusals.{turnedAnswer};
 ghost use Rattle.rules.specs.Turning as rule;
 ghost use Rattle.rules.specs.Reading.{reading};
-ghost use Rattle.module.specs.Given.{directionOf};
+ghost use Rattle.answers.specs.Given.{directionOf};
 ghost use Rattle.answers.specs.Answers.{turnedOut};
 
 // A direction turned about an axis by an angle, and brought to length.

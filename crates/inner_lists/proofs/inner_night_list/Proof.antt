@@ -50,7 +50,8 @@ use Rattle.rules.specs.declared.Moment.{Moment}
 use Rattle.rules.specs.declared.Site.{Site}
 use Rattle.rules.specs.NightList.{nightList, entriesAfterNight}
 use Rattle.inner_lists.specs.declared.InnerListed.{InnerListed}
-use Rattle.inner_lists.specs.Lists.{innerListed, momentOf, siteOf}
+use Rattle.answers.specs.Given.{momentOf, siteOf}
+use Rattle.inner_lists.specs.Lists.{innerListed}
 use Rattle.inner_lists.proofs.Answering.{LR, OR, Out, out-told, to-out, goes-out}
 use Rattle.rules.proofs.Entry as T
 use Rattle.rules.proofs.Moment as Mo

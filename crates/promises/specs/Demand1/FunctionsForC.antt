@@ -11,7 +11,7 @@ use ghost.Atoms.{Atoms}
 use contract.Monad.{Fun, fact-mono}
 use denote.Ref.{now}
 use Rattle.stars.specs.Numbers.{starOf}
-use Rattle.module.specs.Given.{momentOf, siteOf, directionOf}
+use Rattle.answers.specs.Given.{momentOf, siteOf, directionOf}
 use Rattle.promises.specs.Contracts.{Tells}
 use Rattle.promises.specs.Demand1.Checks.{placeChecks, turnChecks, fileChecks, starChecks, rowChecks}
 use Rattle.promises.specs.Demand1.InOrder.{Refuses, Keeps}

@@ -1,2 +1,0 @@
--- What the module is given, in plain numbers.
-pub mod Given
