@@ -1,5 +1,5 @@
 -- What the private functions ask of their numbers, by name: each is met for every angle and every reading.
-use Prim.Native.Nat.{_+_, _*_, _≤_, _<_, _^_}
+use Prim.Native.Nat.{_≤_, _<_}
 use lib.IntN.{ℤ, natAbs}
 use Rattle.rules.specs.Units.{unit}
 use Rattle.rules.specs.Length.{root, pairSquares}

@@ -7,7 +7,7 @@ use crate::units::HALF_IN_PARTS;
 use rules::Pair;
 ghost use mathlib.Core.Path.{_≡_};
 ghost use Prim.Native.Nat.{ℕ};
-ghost use lib.IntN.{ℤ, natAbs};
+ghost use lib.IntN.{ℤ};
 ghost use Rattle.rules.specs.Units.{halfQuarter};
 ghost use Rattle.rules.specs.Length.{pairToLength};
 ghost use Rattle.rules.specs.Circle.{radianParts, pairOfParts};

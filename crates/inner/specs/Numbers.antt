@@ -1,7 +1,6 @@
 -- What the tests' exports of whole-number work answer: the rule's answer where its conditions hold. Definitions only.
-use Prim.Native.Nat.{ℕ, _+_, _/_, _^_}
+use Prim.Native.Nat.{_+_, _/_, _^_}
 use mathlib.Core.Bool.{Bool, cond, not, _&&_}
-use lib.Dec.{leb}
 use lib.Signed.{ltZ}
 use lib.IntN.{ℤ, pos, natAbs, _*ℤ_}
 use Rattle.rules.specs.Units.{circle, +_, between, within}

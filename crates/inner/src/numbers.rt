@@ -2,7 +2,8 @@
 
 ghost use mathlib.Core.Path.{_≡_};
 ghost use lib.IntN.{ℤ};
-ghost use Rattle.inner.specs.Numbers.{rndQuotientTried, rndProductQuotientTried, productTried, wholeRootTried, onCircleTried};
+ghost use Rattle.inner.specs.Numbers.{rndQuotientTried, rndProductQuotientTried};
+ghost use Rattle.inner.specs.Numbers.{productTried, wholeRootTried, onCircleTried};
 
 // What a rule gives: met is 1 and value its answer where its conditions hold, else both are 0.
 #[repr(C)]
@@ -61,7 +62,8 @@ pub extern "C" fn inner_on_circle(a: i64) -> Tried
     }
 }
 
-// Rnd(a * b / d), for d from 1 to 2^42, a to 2^42 and b to 2^60 in size, b to 2^61 / (|a / d| + 1) too.
+// Rnd(a * b / d), for d from 1 to 2^42, a to 2^42 and b to 2^60 in size, b to 2^61 / (|a / d| + 1)
+// too.
 #[no_mangle]
 pub extern "C" fn inner_rnd_product_quotient(a: i64, b: i64, d: i64) -> Tried
     ensures { λ r. ⌜ r ≡ rndProductQuotientTried a b d ⌝ }

@@ -1,5 +1,6 @@
 -- Whole numbers: what the kit lacks of ℤ.
--- an integer by its two parts, for `omega`: facts of sums, products and tests; equations back; identities of few variables
+-- an integer by its two parts, for `omega`: facts of sums, products and tests; equations back; identities of few
+-- variables
 pub mod Difference
 -- sizes: of a sum, a difference, a product; a size from both sides
 pub mod Size

@@ -1,12 +1,12 @@
 -- Squares of naturals, and of three integers together: order by squares, Cauchy and Schwarz, Minkowski.
-use mathlib.Core.Path.{_≡_, refl, sym, ap, subst}
+use mathlib.Core.Path.{_≡_, sym, ap}
 use mathlib.Core.List.{List, [], _∷_}
 use Prim.Native.Nat.{ℕ, _+_, _*_, _≤_, _<_}
 use native.Mathlib.Nat.{mul-le-mul, le-of-mul-le-mul-left, le-trans, le-dest, lt-of-not-le, le-of-lt}
 use native.Mathlib.Decide.{decLe}
 use native.Mathlib.Omega.{arith}
 use lib.IntN.{ℤ, pos, natAbs, _+ℤ_, _-ℤ_, _*ℤ_}
-use Rattle.integers.specs.Difference.{posPart, negPart, sub-is}
+use Rattle.integers.specs.Difference.{sub-is}
 use Rattle.integers.specs.Size.{abs-add, abs-mul, square-abs}
 use Rattle.integers.specs.Ring.{Term, ring, value, v0, v1, v2, v3, v4, v5, lit, square, _⊕_, _⊖_, _⊗_}
 use Rattle.integers.specs.Order.{Nonneg, nonneg-square, nonneg-parts, both, none, part, certify}

@@ -1,4 +1,5 @@
--- Numbers in bytes, a byte at a time, as the code reads and writes them: from the last byte down, and from the lowest up.
+-- Numbers in bytes, a byte at a time, as the code reads and writes them: from the last byte down, and from the lowest
+-- up.
 use mathlib.Core.Path.{_≡_, refl, sym, _∙_, ap, subst}
 use mathlib.Core.Bool.{Bool, true, false, cond}
 use mathlib.Core.List.{List, [], _∷_}

@@ -21,7 +21,8 @@ use Rattle.rules.specs.Polynomials.{obliquityRow, obliquity}
 use Rattle.rules.specs.Nutation.{nutation}
 use Rattle.rules.specs.Sun.{sunLongitude}
 use Rattle.rules.specs.Sidereal.{sidereal, siderealPolynomial}
-use Rattle.rules.specs.Night.{aberrationConstant, aberrationX, aberrationY, aberration, localSidereal, siteRefused, night}
+use Rattle.rules.specs.Night.{aberrationConstant, aberrationX, aberrationY, aberration, localSidereal, siteRefused}
+use Rattle.rules.specs.Night.{night}
 use Rattle.laws.specs.Units.{within-le}
 use Rattle.laws.specs.Rounding.{rnd-under}
 use Rattle.laws.specs.Modulo.{modulo-lt}

@@ -23,10 +23,10 @@ use Rattle.rules.specs.Rounding.{rnd, remainder}
 use Rattle.rules.specs.Length.{square, squares}
 use Rattle.rules.specs.Circle.{pair}
 use Rattle.rules.specs.Turning.{Accepted}
-use Rattle.rules.specs.Place.{mostMotion, starRefused, moved, directed, precessed, aberrated, nutated, apparent, overhead, readings}
+use Rattle.rules.specs.Place.{mostMotion, starRefused, moved, directed, precessed, aberrated, nutated, apparent}
+use Rattle.rules.specs.Place.{overhead, readings}
 use Rattle.rules.specs.Place.{placeIn, placeAt, place}
 use Rattle.rules.specs.Dates.{instants}
-use Rattle.rules.specs.Refusals.{number}
 use Rattle.rules.specs.Night.{siteRefused, night}
 use Rattle.laws.specs.Units.{between-parts, within-le}
 use Rattle.laws.specs.Rounding.{rnd-under}

@@ -1,4 +1,5 @@
--- The paper's number and values of an answer are one-to-one: two answers that say the same on paper are the same answer.
+-- The paper's number and values of an answer are one-to-one: two answers that say the same on paper are the same
+-- answer.
 -- So a contract that fixes what is said on paper leaves one answer of the enum.
 use mathlib.Core.Path.{_≡_, refl, sym, ap, _∙_}
 use mathlib.Core.List.{List, [], _∷_}
@@ -21,7 +22,8 @@ use Rattle.rules.specs.declared.Prepared.{Prepared}
 use Rattle.rules.specs.declared.Placed.{Placed}
 use Rattle.rules.specs.declared.Listed.{Listed}
 use Rattle.rules.specs.declared.Starred.{Starred}
-use Rattle.rules.specs.Refusals.{number, Answer, given, refused, numberedAnswer, datedAnswer, instantsAnswer, angleAnswer}
+use Rattle.rules.specs.Refusals.{number, Answer, given, refused, numberedAnswer, datedAnswer, instantsAnswer}
+use Rattle.rules.specs.Refusals.{angleAnswer}
 use Rattle.rules.specs.Refusals.{precessedAnswer, arguedAnswer, nutatedAnswer, turnedAnswer, placedAnswer, listedAnswer}
 use Rattle.rules.specs.Refusals.{starredAnswer, parts, preparedAnswer}
 
@@ -99,7 +101,9 @@ numbered-one (Numbered.Refused r) (Numbered.Refused s) e = ap Numbered.Refused (
 
 pub dated-one : (a b : Dated) → datedAnswer a ≡ datedAnswer b → a ≡ b
 unfolding datedAnswer
-dated-one (Dated.On d) (Dated.On d′) e = ap (λ zs. Dated.On (record { year = at zs 0; month = at zs 1; day = at zs 2 })) (same-values _ _ e)
+dated-one (Dated.On d) (Dated.On d′) e =
+    ap (λ zs. Dated.On (record { year = at zs 0; month = at zs 1; day = at zs 2 }))
+    (same-values _ _ e)
 dated-one (Dated.On d) (Dated.Refused s) e = never s 3 _ e
 dated-one (Dated.Refused r) (Dated.On d) e = never r 3 _ (sym e)
 dated-one (Dated.Refused r) (Dated.Refused s) e = ap Dated.Refused (same-refusal r s 3 e)
@@ -121,35 +125,45 @@ angle-one (Angle.Refused r) (Angle.Refused s) e = ap Angle.Refused (same-refusal
 
 pub precessed-one : (a b : Precessed) → precessedAnswer a ≡ precessedAnswer b → a ≡ b
 unfolding precessedAnswer
-precessed-one (Precessed.By p) (Precessed.By p′) e = ap (λ zs. Precessed.By (record { zeta = at zs 0; z = at zs 1; theta = at zs 2 })) (same-values _ _ e)
+precessed-one (Precessed.By p) (Precessed.By p′) e =
+    ap (λ zs. Precessed.By (record { zeta = at zs 0; z = at zs 1; theta = at zs 2 }))
+    (same-values _ _ e)
 precessed-one (Precessed.By p) (Precessed.Refused s) e = never s 3 _ e
 precessed-one (Precessed.Refused r) (Precessed.By p) e = never r 3 _ (sym e)
 precessed-one (Precessed.Refused r) (Precessed.Refused s) e = ap Precessed.Refused (same-refusal r s 3 e)
 
 pub argued-one : (a b : Argued) → arguedAnswer a ≡ arguedAnswer b → a ≡ b
 unfolding arguedAnswer
-argued-one (Argued.By x) (Argued.By x′) e = ap (λ zs. Argued.By (record { moon = at zs 0; sun = at zs 1; latitude = at zs 2; elongation = at zs 3; node = at zs 4 })) (same-values _ _ e)
+argued-one (Argued.By x) (Argued.By x′) e =
+    ap (λ zs. Argued.By (record { moon = at zs 0; sun = at zs 1; latitude = at zs 2; elongation = at zs 3; node = at zs 4 }))
+    (same-values _ _ e)
 argued-one (Argued.By x) (Argued.Refused s) e = never s 5 _ e
 argued-one (Argued.Refused r) (Argued.By x) e = never r 5 _ (sym e)
 argued-one (Argued.Refused r) (Argued.Refused s) e = ap Argued.Refused (same-refusal r s 5 e)
 
 pub nutated-one : (a b : Nutated) → nutatedAnswer a ≡ nutatedAnswer b → a ≡ b
 unfolding nutatedAnswer
-nutated-one (Nutated.By n) (Nutated.By m) e = ap (λ zs. Nutated.By (record { longitude = at zs 0; obliquity = at zs 1 })) (same-values _ _ e)
+nutated-one (Nutated.By n) (Nutated.By m) e =
+    ap (λ zs. Nutated.By (record { longitude = at zs 0; obliquity = at zs 1 }))
+    (same-values _ _ e)
 nutated-one (Nutated.By n) (Nutated.Refused s) e = never s 2 _ e
 nutated-one (Nutated.Refused r) (Nutated.By n) e = never r 2 _ (sym e)
 nutated-one (Nutated.Refused r) (Nutated.Refused s) e = ap Nutated.Refused (same-refusal r s 2 e)
 
 pub turned-one : (a b : Turned) → turnedAnswer a ≡ turnedAnswer b → a ≡ b
 unfolding turnedAnswer
-turned-one (Turned.To v) (Turned.To v′) e = ap (λ zs. Turned.To (record { x = at zs 0; y = at zs 1; z = at zs 2 })) (same-values _ _ e)
+turned-one (Turned.To v) (Turned.To v′) e =
+    ap (λ zs. Turned.To (record { x = at zs 0; y = at zs 1; z = at zs 2 }))
+    (same-values _ _ e)
 turned-one (Turned.To v) (Turned.Refused s) e = never s 3 _ e
 turned-one (Turned.Refused r) (Turned.To v) e = never r 3 _ (sym e)
 turned-one (Turned.Refused r) (Turned.Refused s) e = ap Turned.Refused (same-refusal r s 3 e)
 
 pub placed-one : (a b : Placed) → placedAnswer a ≡ placedAnswer b → a ≡ b
 unfolding placedAnswer
-placed-one (Placed.At p) (Placed.At p′) e = ap (λ zs. Placed.At (record { ra = at zs 0; declination = at zs 1; azimuth = at zs 2; altitude = at zs 3 })) (same-values _ _ e)
+placed-one (Placed.At p) (Placed.At p′) e =
+    ap (λ zs. Placed.At (record { ra = at zs 0; declination = at zs 1; azimuth = at zs 2; altitude = at zs 3 }))
+    (same-values _ _ e)
 placed-one (Placed.At p) (Placed.Refused s) e = never s 4 _ e
 placed-one (Placed.Refused r) (Placed.At p) e = never r 4 _ (sym e)
 placed-one (Placed.Refused r) (Placed.Refused s) e = ap Placed.Refused (same-refusal r s 4 e)
@@ -163,7 +177,9 @@ listed-one (Listed.Refused r) (Listed.Refused s) e = ap Listed.Refused (same-ref
 
 pub starred-one : (a b : Starred) → starredAnswer a ≡ starredAnswer b → a ≡ b
 unfolding starredAnswer
-starred-one (Starred.Of s) (Starred.Of t) e = ap (λ zs. Starred.Of (record { ra = at zs 0; declination = at zs 1; «ra_motion» = at zs 2; «declination_motion» = at zs 3 })) (same-values _ _ e)
+starred-one (Starred.Of s) (Starred.Of t) e =
+    ap (λ zs. Starred.Of (record { ra = at zs 0; declination = at zs 1; «ra_motion» = at zs 2; «declination_motion» = at zs 3 }))
+    (same-values _ _ e)
 starred-one (Starred.Of s) (Starred.Refused r) e = never r 4 _ e
 starred-one (Starred.Refused r) (Starred.Of s) e = never r 4 _ (sym e)
 starred-one (Starred.Refused r) (Starred.Refused s) e = ap Starred.Refused (same-refusal r s 4 e)

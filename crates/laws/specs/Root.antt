@@ -3,7 +3,8 @@ use mathlib.Core.Path.{_≡_}
 use Prim.Native.Nat.{ℕ, zero, suc, _+_, _*_, _/_, _≤_, _<_, _^_}
 use mathlib.Core.Bool.{Bool, true, false, not, cond}
 use lib.Dec.{T, leb, leb→le, nleb→lt}
-use native.Mathlib.Nat.{two-pow-succ, mul-le-mul, mul-le-mul-right, le-antisymm, lt-of-not-le, lt-div-mul-add, div-mul-le-self}
+use native.Mathlib.Nat.{two-pow-succ, mul-le-mul, mul-le-mul-right, le-antisymm, lt-of-not-le, lt-div-mul-add}
+use native.Mathlib.Nat.{div-mul-le-self}
 use native.Mathlib.Decide.{decLe}
 use native.Mathlib.Omega.{arith}
 use Rattle.integers.specs.Square.{le-of-square-le, two-products-le}

@@ -1,4 +1,5 @@
--- The round trip of the list file. Read and written back, it is byte-equal; written and read back, the stars are the same.
+-- The round trip of the list file. Read and written back, it is byte-equal; written and read back, the stars are the
+-- same.
 use mathlib.Core.Path.{_≡_, refl, sym, _∙_, ap}
 use mathlib.Core.Bool.{false}
 use mathlib.Core.List.{List, [], _∷_, _++_, map, append-assoc, append-nil}

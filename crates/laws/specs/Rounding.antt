@@ -4,14 +4,14 @@ use mathlib.Core.Path.{_≡_, refl, sym, ap, _∙_, subst}
 use mathlib.Core.List.{[], _∷_}
 use Prim.Native.Nat.{ℕ, zero, suc, _+_, _*_, _-_, _/_, _%_, _≤_, _<_}
 use native.Mathlib.Nat.{div-eq-of-lt-le, div-add-mod', mod-lt, lt-div-mul-add, div-mul-le-self, div-lt-iff-lt-mul}
-use native.Mathlib.Nat.{mul-le-mul-left, le-mul-of-pos-right, le-trans}
+use native.Mathlib.Nat.{mul-le-mul-left, le-mul-of-pos-right}
 use native.Mathlib.Nat.{lt-of-not-le}
 use native.Mathlib.Decide.{decLt}
 use native.Mathlib.Omega.{arith}
 use lib.Dec.{ltb→lt}
 use lib.IntN.{ℤ, pos, negsuc, negℤ, natAbs, _+ℤ_, _-ℤ_, _*ℤ_, negℤ-negℤ}
 use lib.Signed.{quotZ, remZ, mag, _<ℤ_, _≤ℤ_}
-use Rattle.integers.specs.Difference.{posPart, negPart, add-is, sub-is}
+use Rattle.integers.specs.Difference.{add-is, sub-is}
 use Rattle.integers.specs.Size.{abs-neg, abs-mul, abs-is, parts-apart, mag-neg-le}
 use Rattle.integers.specs.Sign.{odd, mul-neg, neg-add-neg, by-sign}
 use Rattle.integers.specs.Ring.{ring, v0, v1, v2, v3, neg, lit, _⊕_, _⊖_, _⊗_}

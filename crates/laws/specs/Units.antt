@@ -1,10 +1,10 @@
 -- What the ranges of the refusals say: `between`, `within`, `same`, as facts that `omega` and `Holds` read, and back.
-use mathlib.Core.Path.{_≡_, refl, sym, ap, _∙_, subst}
+use mathlib.Core.Path.{_≡_, refl, sym, subst}
 use mathlib.Core.Bool.{Bool, true, false, not, _&&_}
 use Prim.Native.Nat.{ℕ, _+_, _≤_, _<_}
 use native.Mathlib.Omega.{arith}
 use lib.Dec.{T, lt→ltb, le→leb}
-use lib.IntN.{ℤ, pos, negsuc, negℤ, natAbs}
+use lib.IntN.{ℤ, pos, negsuc, natAbs}
 use lib.Signed.{ltZ, _<ℤ_, _≤ℤ_}
 use Rattle.integers.specs.Difference.{posPart, negPart, posPart-neg, negPart-neg, ltZ-true, ltZ-false, eq-of-parts}
 use Rattle.integers.specs.Size.{abs-is, abs-le}

@@ -24,7 +24,8 @@ fn term(l: i64, l1: i64, f: i64, d: i64, om: i64, psi: i64, psi1: i64, eps: i64,
     }
 }
 
-// The term k, from 0 to 9, set as 01 prints it. A table indexed by k would be laid out anew at each call.
+// The term k, from 0 to 9, set as 01 prints it. A table indexed by k would be laid out anew at each
+// call.
 pub fn term_at(k: usize) -> Term
     requires { ⌜ k < 10 ⌝ }
     ensures { λ r. ⌜ r ≡ termAt k ⌝ }

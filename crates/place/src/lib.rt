@@ -22,7 +22,8 @@ mod readings;
 // The place of a star at a moment and a site.
 //
 // Given: moment (UTC, UT1-UTC in ms), star, site: any.
-// Returned: apparent right ascension and declination, azimuth and altitude in µas; refusals 1 to 4, 5, 6.
+// Returned: apparent right ascension and declination, azimuth and altitude in µas; refusals 1 to 4,
+// 5, 6.
 // Rule: 01, "Turns, readings, place", steps 1 to 6.
 pub fn place(moment: Moment, star: Star, site: Site) -> Placed
     ensures { λ r. ⌜ r ≡ rule.place moment star site ⌝ }

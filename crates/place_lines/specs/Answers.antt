@@ -2,9 +2,8 @@
 -- The file is checked first, by 9, 10, 5; then the form of the line, by 0; then date and site, by 1 to 4, 6.
 use Prim.Native.Nat.{ℕ}
 use mathlib.Core.Bool.{Bool, cond}
-use mathlib.Core.List.{List, _∷_, _++_}
+use mathlib.Core.List.{List, _++_}
 use lib.IntN.{pos}
-use Rattle.rules.specs.declared.Star.{Star}
 use Rattle.rules.specs.declared.Place.{Place}
 use Rattle.rules.specs.declared.Entry.{Entry}
 use Rattle.rules.specs.declared.Night.{Night}

@@ -1,8 +1,8 @@
 -- How long the parts of a line of the answer are, and a line at most.
-use mathlib.Core.Path.{_≡_, refl, _∙_}
+use mathlib.Core.Path.{_≡_, refl}
 use mathlib.Core.Bool.{Bool, true, false, cond}
-use mathlib.Core.List.{List, _∷_, _++_}
-use Prim.Native.Nat.{ℕ, _+_, _-_, _/_, _%_, _^_, _≤_}
+use mathlib.Core.List.{List, _++_}
+use Prim.Native.Nat.{ℕ, _+_, _-_, _^_, _≤_}
 use native.Mathlib.Omega.{arith}
 use lib.Dec.{lit≤}
 use lib.IntN.{ℤ, pos, negsuc, natAbs}
@@ -13,9 +13,7 @@ use Rattle.rules.specs.declared.Entry.{Entry}
 use Rattle.rules.specs.declared.Night.{Night}
 use Rattle.rules.specs.declared.Starred.{Starred}
 use Rattle.rules.specs.Units.{circle}
-use Rattle.rules.specs.Rounding.{rnd}
 use Rattle.rules.specs.Refusals.{number}
-use Rattle.rules.specs.Lines.{colon, point}
 use Rattle.rules.specs.Times.{decimal}
 use Rattle.rules.specs.Place.{starRefused, apparent, overhead, readings, placeIn}
 use Rattle.rules.specs.StarList.{noughts, freshEntry, listStar}
@@ -23,7 +21,7 @@ use Rattle.rules.specs.NightList.{worked}
 use Rattle.laws.specs.Near.{UpTo}
 use Rattle.laws.specs.ReadingRange.{reading-range}
 use Rattle.laws.specs.Heights.{height-le}
-use Rattle.laws.specs.Decimal.{lastDigits, length-last-digits, word-limit, length-decimal}
+use Rattle.laws.specs.Decimal.{word-limit, length-decimal}
 use Rattle.laws.specs.Times.{refused-line-le, number-le as refusal-le}
 use Rattle.sexagesimal.specs.Sexagesimal.{hours, bearing, elevation}
 use Rattle.sexagesimal.specs.Widths.{hours-length, bearing-length, elevation-length}

@@ -5,7 +5,6 @@
 // Standard input: one line, `YYYY-MM-DD hh:mm:ss.mmm d latitude longitude`, angles in µas.
 // Standard output: a header and a line for each entry, or `refused N`. What went wrong with the
 // arguments or with reading goes to standard error, and then nothing to standard output.
-ghost use mathlib.Core.Path.{_≡_};
 ghost use Prim.Native.Nat.{ℕ, _≤_};
 ghost use Rattle.laws.specs.Night.{NightFits};
 use place_lines::Begun;

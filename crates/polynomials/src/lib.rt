@@ -4,7 +4,7 @@
 use rounding::rnd_product_quotient;
 use rounding::rnd_quotient;
 ghost use mathlib.Core.Path.{_≡_};
-ghost use mathlib.Core.List.{List, [], _∷_};
+ghost use mathlib.Core.List.{[], _∷_};
 ghost use lib.IntN.{ℤ};
 ghost use Rattle.rules.specs.Polynomials.{instantRefused, step, polynomial};
 ghost use Rattle.polynomials.specs.Fits.{StepFits, PolynomialFits};

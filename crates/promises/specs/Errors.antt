@@ -1,4 +1,5 @@
--- Document 01, "Errors to expect": what each comes to. That none is made, the contracts say; the edits that make them are
+-- Document 01, "Errors to expect": what each comes to. That none is made, the contracts say; the edits that make them
+-- are
 -- refused. A return to length that is dropped is `Demand3` without its bound: `length:no_return_to_length`.
 use mathlib.Core.Path.{_≡_, refl}
 use Prim.Native.Nat.{ℕ, _*_, _≤_, _<_, _^_}
@@ -26,7 +27,8 @@ product-fits r h = omega arith
 -- "Taking 45° from the two series": they agree there, so that the exception changes no answer
 pub series-at-half : pairOfParts (radianParts (pos halfQuarter))
     ≡ record { cosine = pos 759250125; sine = pos 759250125 }
-unfolding pairOfParts radianParts rawCosine rawSine stages stage squareParts rnd rndSize pairToLength partTo root rootFrom pairSquares square
+unfolding pairOfParts radianParts rawCosine rawSine stages stage squareParts rnd rndSize pairToLength partTo root
+    rootFrom pairSquares square
 series-at-half = refl
 
 -- "Feeding UT to precession or TT to sidereal time": at UT 827,308,800,000 and TT 827,308,869,184, which is 20 March

@@ -1,1 +1,2 @@
-// What is promised, in specs/: each statement in full, proved by citing the crates below. There is no code.
+// What is promised, in specs/: each statement in full, proved by citing the crates below. There is
+// no code.

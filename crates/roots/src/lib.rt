@@ -18,7 +18,8 @@ const NEAR: i64 = 1073741856;
 
 const NEAR_SQUARE: i64 = 1152921573326324736;
 
-// 2^30 - 64 and its square, 2^38 - 1 above that, and 2^31: near 2^60 a square goes up by nearly as much to the next.
+// 2^30 - 64 and its square, 2^38 - 1 above that, and 2^31: near 2^60 a square goes up by nearly as
+// much to the next.
 const LOW: i64 = 1073741760;
 
 const LOW_SQUARE: i64 = 1152921367167897600;
@@ -75,7 +76,8 @@ pub fn length_root(n: i64) -> i64
     whole_root(n)
 }
 
-// The root of a number near 2^60: from LOW on, squares go up by little less than 2^31, so that the quotient is the root or
+// The root of a number near 2^60: from LOW on, squares go up by little less than 2^31, so that the
+// quotient is the root or
 // one below.
 fn near_root(n: i64) -> i64
     requires { ⌜ NearSquare n ⌝ }

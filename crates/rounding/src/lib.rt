@@ -22,7 +22,8 @@ const HALF_UNIT: i64 = 536870912;
 // Returned: Rnd(a / b), no larger in size than a.
 // Rule: 01, "Numbers, angles, instants".
 //
-// Both operators go toward zero and keep the sign of a, so there is no case on signs; 2 * (a % b) / b
+// Both operators go toward zero and keep the sign of a, so there is no case on signs; 2 * (a % b) /
+// b
 // is 1, 0 or -1. The text-book (2 * a + b) / (2 * b) would pass the word from a = 2^62 up.
 pub fn rnd_quotient(a: i64, b: i64) -> i64
     requires { ⌜ pos 0 <ℤ b ⌝ }
@@ -69,7 +70,8 @@ pub fn rnd_by_unit(a: i64) -> i64
 
 // Rnd(a * b / d), though a * b may pass the word.
 //
-// Given: what `ProductFits` asks: d from 1 to 2^42, a to 2^42 and b to 2^60 in size, the answer to 2^61.
+// Given: what `ProductFits` asks: d from 1 to 2^42, a to 2^42 and b to 2^60 in size, the answer to
+// 2^61.
 // Returned: Rnd(a * b / d), to the last unit.
 // Rule: 01, "where a rule's product is larger it is carried in parts, with the same answer".
 //

@@ -1,4 +1,5 @@
--- Angles as our own program `places` prints them for people, not of document 01: definitions, and what is known of them.
+-- Angles as our own program `places` prints them for people, not of document 01: definitions, and what is known of
+-- them.
 pub mod Sexagesimal
 -- laws
 pub mod Rows

@@ -1,7 +1,7 @@
 -- Sizes of quotients in 64 bits.
 use mathlib.Core.Path.{_≡_, ap, _∙_}
 use Prim.Native.Nat.{ℕ, _/_, _<_}
-use lib.Dec.{T, ltb, lt→ltb}
+use lib.Dec.{lt→ltb}
 use lib.IntN.{ℤ, pos, natAbs}
 use lib.Signed.{quotZ}
 use mir.Syntax.{w64}

@@ -16,7 +16,8 @@ const DAY: i64 = 86400000;
 //
 // Given: t, UT, from -Q to Q.
 // Returned: µas, from 0 to C - 1.
-// Rule: 01, "Polynomials in time" (Aoki 1982). UT counts from noon: the constant has its 12 h in it.
+// Rule: 01, "Polynomials in time" (Aoki 1982). UT counts from noon: the constant has its 12 h in
+// it.
 pub fn sidereal_of(t: Ut) -> i64
     requires { ⌜ InRange (t .0) ⌝ }
     ensures { λ r. ⌜ r ≡ sidereal t ⌝ }

@@ -1,6 +1,6 @@
 -- What fits a signed word: from a bound on the size, and for the quotient and remainder of any two words.
 use mathlib.Core.Path.{_≡_}
-use Prim.Native.Nat.{ℕ, suc, _≤_, _<_, _^_}
+use Prim.Native.Nat.{_≤_, _<_, _^_}
 use native.Mathlib.Omega.{arith}
 use lib.Dec.{ltb→lt}
 use lib.IntN.{ℤ, pos, negsuc, natAbs}

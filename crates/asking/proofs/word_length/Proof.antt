@@ -1,7 +1,7 @@
 -- `asking::word_length` meets its contract. What is passed, with the word in the bytes left, is the word;
 -- the measure is the bytes left.
-use mathlib.Core.Path.{_≡_, _∙_}
-use Prim.Native.Nat.{ℕ, _+_, _-_, _≤_}
+use mathlib.Core.Path.{_≡_}
+use Prim.Native.Nat.{_+_, _-_, _≤_}
 use native.Mathlib.Omega.{arith}
 use lib.ListN.{length, drop}
 use Rattle.asking.specs.Asking.{wordLength}

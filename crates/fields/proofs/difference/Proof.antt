@@ -7,7 +7,7 @@ use lib.ListN.{length}
 use mir.Syntax.{w32, w64}
 use mir.Val.{SFits, toZ}
 use mir.Facts.{toZ-ofZ}
-use borrow.Author.Needs.{needs, sfits-of}
+use borrow.Author.Needs.{sfits-of}
 use Rattle.words.specs.Holds.{bits}
 use Rattle.words.specs.Fits.{fits32}
 use Rattle.rules.specs.Lines.{unsigned, ofNumber}

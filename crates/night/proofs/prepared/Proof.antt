@@ -1,6 +1,6 @@
 -- `night::prepared` meets its contract.
 use mathlib.Core.Path.{_≡_, sym, ap, _∙_}
-use mathlib.Core.Bool.{true, false}
+use mathlib.Core.Bool.{false}
 use borrow.Author.Needs.{needs}
 use Rattle.rules.specs.declared.Prepared.{Prepared}
 use Rattle.rules.specs.Night.{siteRefused, nightAt}

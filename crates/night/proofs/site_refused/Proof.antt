@@ -1,6 +1,6 @@
 -- `night::site_refused` meets its contract.
 use mathlib.Core.Path.{_≡_, sym, ap, _∙_}
-use mathlib.Core.Bool.{true, false, not, _&&_}
+use mathlib.Core.Bool.{not}
 use borrow.Author.Needs.{needs}
 use Rattle.words.specs.Fits.{held64}
 use Rattle.words.specs.Tests.{not-taken, not-left}

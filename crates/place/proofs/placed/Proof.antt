@@ -1,6 +1,6 @@
 -- `place::placed` meets its contract.
 use mathlib.Core.Path.{_≡_, sym, ap, _∙_}
-use mathlib.Core.Bool.{true, false}
+use mathlib.Core.Bool.{false}
 use borrow.Author.Needs.{needs}
 use Rattle.rules.specs.declared.Placed.{Placed}
 use Rattle.rules.specs.Night.{siteRefused, night}

@@ -1,5 +1,5 @@
 -- `place_lines::begin_for` meets its contract.
-use mathlib.Core.Path.{_≡_, sym, ap, _∙_}
+use mathlib.Core.Path.{sym, ap, _∙_}
 use borrow.Author.Needs.{needs}
 use Rattle.place_lines.specs.Answers.{begunIn, begunFor}
 use Rattle.place_lines.proofs.begin_for.Statement.{statement}

@@ -1,5 +1,5 @@
 -- `places::print_answer` is safe: the night that a line comes to is fit for its stars.
-use mathlib.Core.Path.{_≡_, sym, _∙_}
+use mathlib.Core.Path.{sym, _∙_}
 use borrow.Author.Needs.{needs}
 use Rattle.place_lines.specs.Entries.{night-of-begun}
 use Rattle.places.proofs.print_answer.Statement.{statement}

@@ -1,5 +1,5 @@
 -- `roots::closer_to_root` meets its contract: no number is negative, and n / trial is at most two above the trial.
-use mathlib.Core.Path.{_≡_, sym}
+use mathlib.Core.Path.{sym}
 use Prim.Native.Nat.{ℕ, _+_, _*_, _/_, _-_, _≤_, _<_, _^_}
 use native.Mathlib.Nat.{div-lt-iff-lt-mul}
 use native.Mathlib.Omega.{arith}
@@ -7,8 +7,7 @@ use lib.Dec.{lt→ltb}
 use lib.IntN.{pos, natAbs}
 use lib.Signed.{_<ℤ_, pos-natAbs, yes-nonNeg, ltZ-yes}
 use Rattle.words.specs.Fits.{size64-lt}
-use Rattle.words.specs.Holds.{Holds, bits, _+ʷ_, _/ʷ_, got, lit, bounded, add, add-ok, div, div-ok}
-use Rattle.laws.specs.Root.{closer}
+use Rattle.words.specs.Holds.{Holds, bits, _/ʷ_, got, lit, bounded, add, add-ok, div, div-ok}
 use Rattle.roots.proofs.closer_to_root.Statement.{statement}
 use Rattle.roots.proofs.closer_to_root.Tie as tie
 

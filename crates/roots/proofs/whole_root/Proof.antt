@@ -1,6 +1,6 @@
 -- `roots::whole_root` meets its contract. The invariant: the trial is not below the root, and `next` is the step after
 -- it; the measure is the trial. No number is negative, so that each local holds its number, and all is said over ℕ.
-use Prim.Native.Nat.{ℕ, zero, suc, _+_, _*_, _/_, _<_, _≤_, _^_}
+use Prim.Native.Nat.{ℕ, zero, suc, _+_, _*_, _<_, _≤_, _^_}
 use mathlib.Core.Path.{_≡_, refl, sym, ap, _∙_, subst}
 use native.Mathlib.Nat.{div-lt-iff-lt-mul}
 use native.Mathlib.Omega.{arith}

@@ -1,13 +1,15 @@
--- `rounding::rnd_product_quotient` meets its contract: what each word holds, with its bound, and the law of carried products.
+-- `rounding::rnd_product_quotient` meets its contract: what each word holds, with its bound, and the law of carried
+-- products.
 use Prim.Native.Nat.{ℕ, _+_, _*_, _-_, _≤_, _^_}
-use mathlib.Core.Path.{_≡_, _∙_}
+use mathlib.Core.Path.{_∙_}
 use native.Mathlib.Omega.{arith}
 use lib.IntN.{ℤ, pos, natAbs, _+ℤ_, _*ℤ_}
 use lib.Signed.{quotZ, remZ, ltZ-yes}
 use Rattle.integers.specs.Quotient.{size-pos}
 use Rattle.rules.specs.Rounding.{rnd}
 use Rattle.laws.specs.Rounding.{rnd-le}
-use Rattle.laws.specs.Product.{digit, high, middle, low, quotients, high-quotient-le, quotients-le, carried-le, carried-is}
+use Rattle.laws.specs.Product.{digit, high, middle, low, quotients, high-quotient-le, quotients-le, carried-le}
+use Rattle.laws.specs.Product.{carried-is}
 use Rattle.words.specs.Holds.{Holds, bits, _+ʷ_, _*ʷ_, _/ʷ_, _%ʷ_, arg, got, lit, bounded, add, add-ok, mul, mul-ok}
 use Rattle.words.specs.Holds.{add-to, add-to-ok, div, div-ok, div-lit, rem}
 use Rattle.rounding.proofs.rnd_product_quotient.Statement.{statement}

@@ -1,9 +1,8 @@
 -- `rounding::rnd_quotient` meets its contract: any dividend fits, so each part is shown to fit by its own law.
-use Prim.Native.Nat.{ℕ, _*_, _^_}
-use mathlib.Core.Path.{_≡_}
+use Prim.Native.Nat.{_*_}
 use native.Mathlib.Omega.{arith}
 use lib.IntN.{ℤ, pos, natAbs, _+ℤ_, _*ℤ_}
-use lib.Signed.{quotZ, remZ, _<ℤ_}
+use lib.Signed.{quotZ, remZ}
 use mir.Syntax.{w64}
 use mir.Val.{SFits}
 use mir.Facts.{toZ-ofZ}

@@ -5,7 +5,7 @@ use Prim.Native.Nat.{ℕ, _+_, _/_, _%_, _≤_}
 use native.Mathlib.Omega.{arith}
 use lib.Dec.{lit<, lit≤}
 use lib.IntN.{pos, natAbs}
-use lib.ListN.{length, length-append}
+use lib.ListN.{length-append}
 use lib.Signed.{quotZ, remZ, ltZ-yes}
 use mir.Syntax.{w64}
 use mir.Val.{SFits, toZ}

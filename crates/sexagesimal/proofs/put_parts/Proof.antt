@@ -1,10 +1,6 @@
 -- `sexagesimal::put_parts` meets its contract.
-use mathlib.Core.Path.{_≡_}
-use mathlib.Core.List.{List, _++_}
-use Prim.Native.Nat.{ℕ, _+_, _≤_}
 use native.Mathlib.Omega.{arith}
 use lib.IntN.{natAbs}
-use lib.ListN.{length}
 use mir.Facts.{toZ-ofZ}
 use borrow.Author.Needs.{needs}
 use Rattle.rules.specs.Lines.{point}

@@ -1,8 +1,4 @@
 -- `sexagesimal::sign_of` meets its contract.
-use mathlib.Core.Path.{_≡_, sym, ap, _∙_}
-use mathlib.Core.Bool.{Bool, true, false}
-use lib.IntN.{ℤ, pos}
-use lib.Signed.{ltZ}
 use mir.Facts.{toZ-ofZ}
 use Rattle.sexagesimal.specs.Sexagesimal.{signOf}
 use Rattle.sexagesimal.proofs.sign_of.Statement.{statement}

@@ -161,7 +161,8 @@ module _ {M : Type 1} (𝓤 : URA M) (H : Heap 𝓤) (A : Atoms 𝓤) (W : Given
     En = (word, l₀) ∷ (slice, l₁) ∷ (word, l₂) ∷ (word, l₃) ∷ (word, l₄) ∷ (tyBool, l₅) ∷ (tyPtr, l₆) ∷ (T′.mir, l₇)
         ∷ []
 
-    -- 0 the row; 1 n; 2 i; 3 t4; 4 the test; 5 the pointer; 6 the entry; 7 s; 8 the result; 9 the open borrow; 10 the copy that is kept; 11 .. that each local dies
+    -- 0 the row; 1 n; 2 i; 3 t4; 4 the test; 5 the pointer; 6 the entry; 7 s; 8 the result; 9 the open borrow; 10 the
+    -- copy that is kept; 11 .. that each local dies
     abbrev Items : List Entry → List (Item 𝓤)
     Items ps = ‵ (row R q′ xs b o) ∷ ‵ (fat fullShare word l₂ 0 (vint w64 (acceptedAll ps)))
         ∷ ‵ (fat fullShare word l₃ 0 (vint w64 (length ps)))

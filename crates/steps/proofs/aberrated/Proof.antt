@@ -1,6 +1,5 @@
 -- `steps::aberrated` meets its contract: what is added is small beside an accepted direction.
-use mathlib.Core.Path.{_≡_, ap, _∙_}
-use Prim.Native.Nat.{_^_}
+use mathlib.Core.Path.{ap, _∙_}
 use native.Mathlib.Omega.{arith}
 use Rattle.rules.specs.Length.{toLength}
 use Rattle.rules.specs.Place.{aberrated}

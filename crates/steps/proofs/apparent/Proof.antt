@@ -1,7 +1,6 @@
 -- `steps::apparent` meets its contract: a star that is not refused has small angles, and each step's direction is
 -- accepted.
 use mathlib.Core.Path.{_≡_, ap, _∙_}
-use Prim.Native.Nat.{_^_}
 use native.Mathlib.Omega.{arith}
 use lib.IntN.{ℤ}
 use mir.Syntax.{w32, w64}
@@ -10,7 +9,8 @@ use mir.Facts.{toZ-ofZ}
 use Rattle.words.specs.Fits.{fits32, fits64, held64}
 use Rattle.rules.specs.declared.Direction.{Direction}
 use Rattle.rules.specs.Place.{moved, directed, precessed, aberrated, nutated, apparent}
-use Rattle.laws.specs.Place.{StarRanges, star-ranges, moved-le, directed-accepted, precessed-accepted, aberrated-accepted}
+use Rattle.laws.specs.Place.{StarRanges, star-ranges, moved-le, directed-accepted, precessed-accepted}
+use Rattle.laws.specs.Place.{aberrated-accepted}
 use Rattle.steps.proofs.apparent.Statement.{statement}
 use Rattle.steps.proofs.apparent.Tie as tie
 

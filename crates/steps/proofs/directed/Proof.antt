@@ -4,7 +4,7 @@ use Prim.Native.Nat.{_+_, _-_, _^_}
 use borrow.Author.Needs.{needs}
 use lib.IntN.{ℤ, pos, negℤ, _+ℤ_, +ℤ-idl}
 use lib.Signed.{remZ, ltZ-yes}
-use Rattle.words.specs.Holds.{Holds, bits, _-ʷ_, _%ʷ_, arg, lit, sub, sub-ok, div-ok, rem}
+use Rattle.words.specs.Holds.{Holds, bits, _-ʷ_, arg, lit, sub, sub-ok, div-ok, rem}
 use Rattle.rules.specs.declared.Direction.{Direction}
 use Rattle.rules.specs.Units.{circle, +_}
 use Rattle.rules.specs.Rounding.{remainder}

@@ -1,12 +1,10 @@
 -- `steps::moved` meets its contract.
-use mathlib.Core.Path.{_≡_, ap, _∙_}
-use Prim.Native.Nat.{_+_, _*_, _≤_, _^_}
+use mathlib.Core.Path.{ap, _∙_}
+use Prim.Native.Nat.{_*_, _≤_, _^_}
 use native.Mathlib.Nat.{mul-le-mul}
 use native.Mathlib.Omega.{arith}
 use lib.Dec.{lit<}
-use lib.IntN.{ℤ, natAbs, _+ℤ_, _*ℤ_, *ℤ-comm}
-use borrow.Author.Needs.{sfits-of}
-use mir.Facts.{toZ-ofZ}
+use lib.IntN.{ℤ, natAbs, _*ℤ_, *ℤ-comm}
 use Rattle.integers.specs.Size.{abs-mul}
 use Rattle.words.specs.Holds.{Holds, bits, arg, got, widened, widened-ok, add, add-ok}
 use Rattle.rules.specs.Units.{year}

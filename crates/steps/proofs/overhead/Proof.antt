@@ -1,10 +1,9 @@
 -- `steps::overhead` meets its contract: each turn of an accepted direction is accepted.
-use mathlib.Core.Path.{_≡_, ap, _∙_}
+use mathlib.Core.Path.{ap, _∙_}
 use Rattle.rules.specs.Units.{+_}
 use Rattle.rules.specs.Turning.{turnBy}
 use Rattle.rules.specs.Place.{overhead}
 use Rattle.laws.specs.Turning.{turnBy-accepted}
-use Rattle.turning.specs.Given.{TurnFits}
 use Rattle.steps.proofs.overhead.Statement.{statement}
 use Rattle.steps.proofs.overhead.Tie as tie
 

@@ -1,13 +1,11 @@
 -- `steps::precessed` meets its contract: each turn of an accepted direction is accepted.
 use mathlib.Core.Path.{_≡_, ap, _∙_}
-use borrow.Author.Needs.{needs}
 use Rattle.rules.specs.declared.Direction.{Direction}
 use Rattle.rules.specs.Units.{+_}
 use Rattle.rules.specs.Length.{squares}
 use Rattle.rules.specs.Turning.{Accepted, turnBy}
 use Rattle.rules.specs.Place.{precessed}
 use Rattle.laws.specs.Turning.{turnBy-accepted}
-use Rattle.turning.specs.Given.{TurnFits}
 use Rattle.steps.proofs.precessed.Statement.{statement}
 use Rattle.steps.proofs.precessed.Tie as tie
 

@@ -1,6 +1,5 @@
 -- `steps::sum` meets its contract.
-use mathlib.Core.Path.{_≡_}
-use Prim.Native.Nat.{ℕ, _+_, _≤_, _^_}
+use Prim.Native.Nat.{_+_, _≤_, _^_}
 use lib.IntN.{ℤ, natAbs, _+ℤ_}
 use Rattle.words.specs.Holds.{Holds, bits, _+ʷ_, arg, add, add-ok}
 use Rattle.steps.proofs.sum.Statement.{statement}

@@ -1,9 +1,8 @@
 -- `whole::modulo_of` meets its contract.
-use mathlib.Core.Path.{_≡_, _∙_}
-use Prim.Native.Nat.{_^_}
+use mathlib.Core.Path.{_≡_}
 use native.Mathlib.Omega.{arith}
-use lib.IntN.{ℤ, pos, negsuc, natAbs, _+ℤ_}
-use lib.Signed.{remZ, _<ℤ_}
+use lib.IntN.{ℤ, pos, natAbs, _+ℤ_}
+use lib.Signed.{remZ}
 use mir.Syntax.{w64}
 use mir.Val.{toZ, ofZ, SFits}
 use mir.Facts.{toZ-ofZ}

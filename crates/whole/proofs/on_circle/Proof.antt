@@ -1,5 +1,5 @@
 -- `whole::on_circle` meets its contract.
-use mathlib.Core.Path.{_≡_, _∙_}
+use mathlib.Core.Path.{_∙_}
 use borrow.Author.Needs.{needs}
 use mir.Facts.{toZ-ofZ}
 use Rattle.whole.proofs.on_circle.Statement.{statement}

@@ -1,8 +1,6 @@
 -- `whole::size_of` meets its contract.
-use mathlib.Core.Path.{_≡_, _∙_}
+use mathlib.Core.Path.{_∙_}
 use Prim.Native.Nat.{_^_}
-use lib.IntN.{ℤ, pos, natAbs}
-use mir.Facts.{toZ-ofZ}
 use Rattle.integers.specs.Size.{abs-of-negative, abs-of-nonnegative}
 use Rattle.words.specs.Holds.{Holds, bits, arg, lit, sub, sub-ok}
 use Rattle.whole.proofs.size_of.Statement.{statement}

@@ -1,5 +1,4 @@
 -- `night::parts::latitude_pair` meets its contract.
-use mathlib.Core.Path.{_≡_}
 use Prim.Native.Nat.{_+_, _^_}
 use borrow.Author.Needs.{needs}
 use lib.IntN.{pos, _-ℤ_}

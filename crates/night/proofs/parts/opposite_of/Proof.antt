@@ -1,8 +1,4 @@
 -- `night::parts::opposite_of` meets its contract.
-use mathlib.Core.Path.{_≡_}
-use native.Mathlib.Omega.{arith}
-use Prim.Native.Nat.{_^_}
-use lib.IntN.{ℤ}
 use Rattle.words.specs.Holds.{Holds, bits, arg, negate, negate-ok}
 use Rattle.rules.specs.Units.{unit}
 use Rattle.night.proofs.parts.opposite_of.Statement.{statement}

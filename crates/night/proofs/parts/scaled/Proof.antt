@@ -1,10 +1,9 @@
 -- `night::parts::scaled` meets its contract.
-use mathlib.Core.Path.{_≡_, _∙_}
-use Prim.Native.Nat.{_*_, _^_}
+use mathlib.Core.Path.{_∙_}
+use Prim.Native.Nat.{_^_}
 use borrow.Author.Needs.{needs}
-use lib.IntN.{_*ℤ_}
 use Rattle.words.specs.Fits.{held64}
-use Rattle.words.specs.Holds.{Holds, bits, _*ʷ_, arg, mul, mul-ok}
+use Rattle.words.specs.Holds.{Holds, bits, arg, mul, mul-ok}
 use Rattle.rules.specs.Units.{unit}
 use Rattle.night.proofs.parts.scaled.Statement.{statement}
 use Rattle.night.proofs.parts.scaled.Tie as tie

@@ -1,15 +1,9 @@
 -- `night::parts::sidereal_pair` meets its contract.
-use mathlib.Core.Path.{_≡_}
-use Prim.Native.Nat.{_+_, _*_, _≤_, _^_}
-use native.Mathlib.Nat.{mul-le-mul}
-use native.Mathlib.Omega.{arith}
+use Prim.Native.Nat.{_+_, _*_, _^_}
 use borrow.Author.Needs.{needs}
-use lib.Dec.{lit<}
-use lib.IntN.{ℤ, negℤ, natAbs, _+ℤ_, _*ℤ_}
+use lib.IntN.{ℤ, _+ℤ_, _*ℤ_}
 use lib.Signed.{ltZ-yes}
-use mir.Syntax.{w64}
-use mir.Val.{toZ, ofZ}
-use Rattle.words.specs.Holds.{Holds, bits, _+ʷ_, _-ʷ_, arg, got, lit, add, add-ok, negate, negate-ok, div-ok, rem}
+use Rattle.words.specs.Holds.{Holds, bits, _+ʷ_, arg, got, lit, add, add-ok, negate, negate-ok, div-ok, rem}
 use Rattle.rules.specs.Units.{circle, unit}
 use Rattle.rules.specs.Rounding.{rnd, remainder}
 use Rattle.rules.specs.Sidereal.{sidereal}

@@ -1,9 +1,7 @@
 -- `place::readings::readings` meets its contract.
-use mathlib.Core.Path.{_≡_, _∙_}
+use mathlib.Core.Path.{_∙_}
 use Prim.Native.Nat.{_+_}
 use borrow.Author.Needs.{needs}
-use lib.IntN.{ℤ, natAbs}
-use Rattle.integers.specs.Size.{abs-neg}
 use Rattle.words.specs.Fits.{held64}
 use Rattle.words.specs.Holds.{Holds, bits, arg, negate, negate-ok}
 use Rattle.rules.specs.declared.Direction.{Direction}

@@ -1,11 +1,11 @@
 -- `place_lines::printing::worked` meets its contract.
-use mathlib.Core.Path.{_≡_, refl, sym, ap, _∙_}
-use mathlib.Core.Bool.{true, false}
+use mathlib.Core.Path.{_≡_, sym, ap, _∙_}
+use mathlib.Core.Bool.{false}
 use borrow.Author.Needs.{needs}
 use Rattle.rules.specs.declared.Star.{Star}
 use Rattle.rules.specs.declared.Place.{Place}
 use Rattle.rules.specs.declared.Entry.{Entry}
-use Rattle.rules.specs.Place.{starRefused, placeIn}
+use Rattle.rules.specs.Place.{starRefused}
 use Rattle.rules.specs.StarList.{freshEntry}
 use Rattle.rules.specs.NightList as nights
 use Rattle.place_lines.proofs.printing.worked.Statement.{statement}
