@@ -1,12 +1,13 @@
 // The line that `places` reads.
-ghost use mathlib.Core.Path.{_≡_};
-ghost use Rattle.asking.specs.Asking as rule;
+
 use fields::line_of;
 use fields::numbers::of_number;
 use fields::numbers::signed;
 use rules::Line;
 use rules::Moment;
 use rules::Site;
+ghost use mathlib.Core.Path.{_≡_};
+ghost use Rattle.asking.specs.Asking as rule;
 
 // A line of `places`.
 pub enum Asked {

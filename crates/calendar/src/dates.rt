@@ -1,4 +1,11 @@
 // Dates of the span, and the days of the span before them.
+
+use crate::years::leap;
+use crate::years::month_days;
+use crate::years::months_before;
+use crate::years::years_before;
+use rules::Date;
+use whole::is_between;
 ghost use mathlib.Core.Path.{_≡_};
 ghost use lib.IntN.{natAbs};
 ghost use Rattle.rules.specs.Calendar as rule;
@@ -6,12 +13,6 @@ ghost use Rattle.laws.specs.Ranges.{InRange};
 ghost use Rattle.laws.specs.DayNumbers.{RealDate};
 ghost use Rattle.laws.specs.Found.{DaysOfYear, dateIn};
 ghost use Rattle.laws.specs.Parts.{dateOfParts};
-use crate::years::leap;
-use crate::years::month_days;
-use crate::years::months_before;
-use crate::years::years_before;
-use rules::Date;
-use whole::is_between;
 
 // Whether there is no such month or day.
 pub fn day_refused(year: i64, month: i64, day: i64) -> bool

@@ -1,6 +1,5 @@
 // The calendar of document 01, "Dates": day numbers and dates.
-ghost use mathlib.Core.Path.{_≡_};
-ghost use Rattle.rules.specs.Calendar.{dayOf, dateOf};
+
 use crate::dates::date_at;
 use crate::dates::day_number;
 use crate::dates::day_refused;
@@ -9,6 +8,8 @@ use rules::Dated;
 use rules::Numbered;
 use rules::Refusal;
 use whole::is_between;
+ghost use mathlib.Core.Path.{_≡_};
+ghost use Rattle.rules.specs.Calendar.{dayOf, dateOf};
 
 pub mod dates;
 mod years;

@@ -1,4 +1,5 @@
 // Years and months: their lengths, and the days of the span before them.
+
 ghost use mathlib.Core.Path.{_≡_};
 ghost use Prim.Native.Nat.{_<_, _≤_, _-_};
 ghost use lib.IntN.{pos, natAbs};

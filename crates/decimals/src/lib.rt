@@ -1,4 +1,5 @@
 // Whole numbers in decimal, put into lent memory.
+
 ghost use mathlib.Core.Path.{_≡_};
 ghost use Prim.Native.Nat.{_≤_, _+_, _%_};
 ghost use lib.IntN.{natAbs};

@@ -1,11 +1,5 @@
 // A line of `times` read: whether its fields have their form, and the numbers in them.
-ghost use mathlib.Core.Path.{_≡_};
-ghost use mathlib.Core.Bool.{true};
-ghost use Prim.Native.Nat.{ℕ, _≤_, _+_, _-_};
-ghost use lib.IntN.{ℤ};
-ghost use lib.ListN.{length};
-ghost use Rattle.rules.specs.Lines as rule;
-ghost use Rattle.laws.specs.Lines as law;
+
 use crate::numbers::is_digit;
 use crate::numbers::of_number;
 use crate::numbers::signed;
@@ -14,6 +8,13 @@ use rules::Date;
 use rules::Line;
 use rules::Moment;
 use rules::Time;
+ghost use mathlib.Core.Path.{_≡_};
+ghost use mathlib.Core.Bool.{true};
+ghost use Prim.Native.Nat.{ℕ, _≤_, _+_, _-_};
+ghost use lib.IntN.{ℤ};
+ghost use lib.ListN.{length};
+ghost use Rattle.rules.specs.Lines as rule;
+ghost use Rattle.laws.specs.Lines as law;
 
 pub mod numbers;
 

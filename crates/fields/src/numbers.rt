@@ -1,4 +1,5 @@
 // A number in decimal: whether a row of bytes is one, and its value.
+
 ghost use mathlib.Core.Path.{_≡_};
 ghost use mathlib.Core.Bool.{true};
 ghost use Prim.Native.Nat.{ℕ, _≤_, _+_, _-_};

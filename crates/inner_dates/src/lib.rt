@@ -1,4 +1,4 @@
-// Dates, instants and lines of `times`, of the crates `calendar` and `lines`.
+// Exports for the tests alone: dates, instants and lines of `times`. It is not shipped.
 
 use rules::Date;
 use rules::Dated;

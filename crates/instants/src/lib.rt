@@ -1,6 +1,5 @@
 // The two instants of a UTC date, document 01, "Dates".
-ghost use mathlib.Core.Path.{_≡_};
-ghost use Rattle.rules.specs.Dates as rule;
+
 use crate::seconds::instants_at;
 use crate::seconds::ms_of_day;
 use crate::seconds::time_refused;
@@ -10,6 +9,8 @@ use rules::Instants;
 use rules::Moment;
 use rules::Refusal;
 use whole::is_between;
+ghost use mathlib.Core.Path.{_≡_};
+ghost use Rattle.rules.specs.Dates as rule;
 
 mod seconds;
 

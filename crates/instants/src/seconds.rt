@@ -1,14 +1,15 @@
 // Added seconds, the time of day, UT and TT.
+
+use rules::Instants;
+use rules::Tt;
+use rules::Ut;
+use whole::is_between;
 ghost use mathlib.Core.Path.{_≡_};
 ghost use Prim.Native.Nat.{_≤_};
 ghost use lib.IntN.{pos, natAbs};
 ghost use Rattle.rules.specs.Dates as rule;
 ghost use Rattle.laws.specs.Instants.{RealTime, InstantParts};
 ghost use Rattle.laws.specs.Parts.{timeOfParts, utcAt, instantsAt};
-use rules::Instants;
-use rules::Tt;
-use rules::Ut;
-use whole::is_between;
 
 // The day numbers of the steps: 1 July, then 1 January, as 01 lists them.
 const STEPS: [i64; 27] = [

@@ -1,9 +1,10 @@
-// The lines of `times`, document 01, "Dates": a line read, and its answer printed.
+// The lines of `times`, document 01, "Dates": the answer to a line, printed.
+
+use crate::printing::put_line;
+use fields::line_of;
 ghost use mathlib.Core.Path.{_≡_};
 ghost use lib.ListN.{length};
 ghost use Rattle.lines.specs.Printed.{printedFor, printedIn, overlaidFor, overlaidIn};
-use crate::printing::put_line;
-use fields::line_of;
 
 pub mod printing;
 

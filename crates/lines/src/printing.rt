@@ -1,15 +1,16 @@
 // What `times` prints for a line, put at the front of lent memory.
+
+use decimals::put;
+use rules::Instants;
+use rules::Line;
+use rules::Moment;
+use rules::Numbered;
 ghost use mathlib.Core.Path.{_≡_};
 ghost use Prim.Native.Nat.{_≤_};
 ghost use lib.ListN.{length};
 ghost use lib.Seq.{sets};
 ghost use Rattle.rules.specs.Times as rule;
 ghost use Rattle.lines.specs.Printed.{answerTo, refusedTo};
-use decimals::put;
-use rules::Instants;
-use rules::Line;
-use rules::Moment;
-use rules::Numbered;
 
 // `refused ` and the number.
 pub fn put_refused(number: i64, out: &mut [u8]) -> usize

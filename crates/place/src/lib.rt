@@ -1,4 +1,4 @@
-// The place of a star, document 01, "Turns, readings, place": the six steps.
+// The place of a star, document 01, "Turns, readings, place": the six steps with their refusals.
 
 use rules::Instants;
 use rules::Moment;

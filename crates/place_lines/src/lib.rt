@@ -1,11 +1,6 @@
 // Lines of the program `places`, our own and not document 01's: a line read, and a line of the
 // answer printed.
-ghost use mathlib.Core.Path.{_≡_};
-ghost use Prim.Native.Nat.{ℕ, _≤_};
-ghost use lib.ListN.{length};
-ghost use lib.Seq.{sets};
-ghost use Rattle.laws.specs.Night.{NightFits};
-ghost use Rattle.place_lines.specs.Answers as rule;
+
 use crate::printing::put_entry;
 use crate::printing::worked;
 use asking::Asked;
@@ -17,6 +12,12 @@ use rules::Prepared;
 use rules::Starred;
 use star_file::reading::list_count;
 use star_file::reading::list_star;
+ghost use mathlib.Core.Path.{_≡_};
+ghost use Prim.Native.Nat.{ℕ, _≤_};
+ghost use lib.ListN.{length};
+ghost use lib.Seq.{sets};
+ghost use Rattle.laws.specs.Night.{NightFits};
+ghost use Rattle.place_lines.specs.Answers as rule;
 
 mod printing;
 

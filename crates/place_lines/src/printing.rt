@@ -1,4 +1,14 @@
 // A line of the answer, put at the front of lent memory.
+
+use decimals::put;
+use rules::Entry;
+use rules::Night;
+use rules::Place;
+use rules::Star;
+use sexagesimal::put_bearing;
+use sexagesimal::put_elevation;
+use sexagesimal::put_hours;
+use stars::star_refused;
 ghost use mathlib.Core.Path.{_≡_};
 ghost use Prim.Native.Nat.{ℕ, _≤_, _+_};
 ghost use lib.IntN.{ℤ};
@@ -10,15 +20,6 @@ ghost use Rattle.rules.specs.NightList as nights;
 ghost use Rattle.laws.specs.Night.{NightFits};
 ghost use Rattle.place_lines.specs.Answers as rule;
 ghost use Rattle.sexagesimal.specs.Sexagesimal.{spaced};
-use decimals::put;
-use rules::Entry;
-use rules::Night;
-use rules::Place;
-use rules::Star;
-use sexagesimal::put_bearing;
-use sexagesimal::put_elevation;
-use sexagesimal::put_hours;
-use stars::star_refused;
 
 // A star of a night as an entry.
 pub fn worked(night: Night, star: Star) -> Entry

@@ -5,10 +5,11 @@
 // Standard input: one line, `YYYY-MM-DD hh:mm:ss.mmm d latitude longitude`, angles in µas.
 // Standard output: a header and a line for each entry, or `refused N`. What went wrong with the
 // arguments or with reading goes to standard error, and then nothing to standard output.
-ghost use Prim.Native.Nat.{ℕ, _≤_};
-ghost use Rattle.laws.specs.Night.{NightFits};
+
 use place_lines::Begun;
 use rules::Night;
+ghost use Prim.Native.Nat.{ℕ, _≤_};
+ghost use Rattle.laws.specs.Night.{NightFits};
 
 // A line: its first bytes, as many as there is room for. A line is told by its first 58 bytes
 // (`asked-cut`), so nothing is lost.

@@ -1,4 +1,8 @@
 // Angles for people, put into lent memory after a space.
+
+use decimals::put_digits;
+use rounding::rnd_quotient;
+use whole::modulo_of;
 ghost use mathlib.Core.Path.{_≡_};
 ghost use Prim.Native.Nat.{ℕ, _≤_, _+_};
 ghost use lib.IntN.{ℤ, natAbs};
@@ -6,9 +10,6 @@ ghost use lib.ListN.{length};
 ghost use lib.Seq.{sets};
 ghost use Rattle.sexagesimal.specs.Sexagesimal.{spaced};
 ghost use Rattle.sexagesimal.specs.Sexagesimal as rule;
-use decimals::put_digits;
-use rounding::rnd_quotient;
-use whole::modulo_of;
 
 // A byte, and then the last digits of n.
 pub fn put_marked(mark: u8, n: i64, digits: usize, at: usize, out: &mut [u8]) -> usize

@@ -1,4 +1,4 @@
-// The star list file, byte by byte: what reads and writes it with plain numbers and byte slices.
+// A list file read: its checks, a star by its index, a record as an entry.
 
 use rules::Listed;
 ghost use mathlib.Core.Path.{_≡_};

@@ -1,4 +1,4 @@
-// Steps 1 to 6 of a place, each of a night and a direction.
+// Steps 1 to 6 of a place but for its readings, each of a night and a direction.
 
 use rules::Direction;
 use rules::Night;
