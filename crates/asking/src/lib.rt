@@ -1,8 +1,8 @@
 // The line that `places` reads.
 
 use fields::line_of;
-use fields::numbers::of_number;
-use fields::numbers::signed;
+use numerals::of_number;
+use numerals::signed;
 use rules::Line;
 use rules::Moment;
 use rules::Site;

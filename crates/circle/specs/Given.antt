@@ -6,19 +6,6 @@ use Rattle.rules.specs.Length.{root, pairSquares}
 use Rattle.rules.specs.declared.Pair.{Pair}
 use Rattle.laws.specs.Near.{UpTo}
 
--- a stage of a row: w and p from nought to a whole, k from 1 to the row's largest
-pub record StageGiven (w k p : ℤ) : Type 0 where
-  pub w-range : UpTo w unit
-  pub p-range : UpTo p unit
-  pub k-pos : 0 < natAbs k
-  pub k-range : UpTo k 132
-
--- a pair brought to length: no part is above a whole, and the length is not nought
-pub record PairGiven (p : Pair) : Type 0 where
-  pub cosine-le : natAbs (p .cosine) ≤ unit
-  pub sine-le : natAbs (p .sine) ≤ unit
-  pub length-pos : 0 < root (pairSquares p)
-
 -- a pair that is turned to its quarter: no part is above a whole
 pub record QuarterGiven (q : ℤ) (p : Pair) : Type 0 where
   pub q-range : UpTo q 3

@@ -1,16 +1,13 @@
 // Sine and cosine of an angle, document 01, "Sine and cosine". Angles are in µas, all else in parts
 // of 2^30.
 
-use crate::units::QUARTER;
 use rules::Pair;
+use series::units::QUARTER;
 ghost use mathlib.Core.Path.{_≡_};
 ghost use lib.IntN.{ℤ};
 ghost use Rattle.rules.specs.Circle as circle;
 
-mod parts;
 mod quarters;
-pub mod rows;
-pub mod units;
 
 // Cosine and sine of an angle.
 //

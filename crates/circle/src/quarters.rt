@@ -1,9 +1,9 @@
 // The pair from nought to half a quarter, to a quarter, and in each quarter.
 
-use crate::parts;
-use crate::units::HALF_QUARTER;
-use crate::units::QUARTER;
 use rules::Pair;
+use series::parts;
+use series::units::HALF_QUARTER;
+use series::units::QUARTER;
 ghost use mathlib.Core.Path.{_≡_};
 ghost use Prim.Native.Nat.{ℕ};
 ghost use lib.IntN.{ℤ, natAbs};

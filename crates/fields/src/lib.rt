@@ -1,9 +1,9 @@
 // A line of `times` read: whether its fields have their form, and the numbers in them.
 
-use crate::numbers::is_digit;
-use crate::numbers::of_number;
-use crate::numbers::signed;
-use crate::numbers::spelled;
+use numerals::is_digit;
+use numerals::of_number;
+use numerals::signed;
+use numerals::spelled;
 use rules::Date;
 use rules::Line;
 use rules::Moment;
@@ -15,8 +15,6 @@ ghost use lib.IntN.{ℤ};
 ghost use lib.ListN.{length};
 ghost use Rattle.rules.specs.Lines as rule;
 ghost use Rattle.laws.specs.Lines as law;
-
-pub mod numbers;
 
 // A 0 stands for any digit, every other byte for itself.
 const FORM: [u8; 24] = *b"0000-00-00 00:00:00.000 ";

@@ -1,6 +1,7 @@
 // Exports for the tests alone: the functions over lent entries, of the crates `star_list` and
 // `night_list`, which `module` does not show. It is not shipped.
 
+use entries_writing::write_list;
 use night_list::night_list;
 use rules::Date;
 use rules::Entry;
@@ -9,7 +10,6 @@ use rules::Moment;
 use rules::Site;
 use rules::Time;
 use star_list::read_list;
-use star_list::write_list;
 ghost use mathlib.Core.Path.{_≡_};
 ghost use Rattle.rules.specs.Refusals.{listedAnswer};
 ghost use Rattle.rules.specs.StarList.{listRead, entriesAfterRead, listWritten, roomAfterWrite};

@@ -1,18 +1,16 @@
 // The two instants of a UTC date, document 01, "Dates".
 
-use crate::seconds::instants_at;
-use crate::seconds::ms_of_day;
-use crate::seconds::time_refused;
 use calendar::dates::day_number;
 use calendar::dates::day_refused;
 use rules::Instants;
 use rules::Moment;
 use rules::Refusal;
+use seconds::instants_at;
+use seconds::ms_of_day;
+use seconds::time_refused;
 use whole::is_between;
 ghost use mathlib.Core.Path.{_≡_};
 ghost use Rattle.rules.specs.Dates as rule;
-
-mod seconds;
 
 // The two instants of a UTC date with its time of day and UT1-UTC.
 //

@@ -1,9 +1,9 @@
 // All of a place that date and site alone decide.
 
-use crate::parts::aberration;
-use crate::parts::latitude_pair;
-use crate::parts::opposite_of;
-use crate::parts::sidereal_pair;
+use night_parts::aberration;
+use night_parts::latitude_pair;
+use night_parts::opposite_of;
+use night_parts::sidereal_pair;
 use rules::Instants;
 use rules::Moment;
 use rules::Night;
@@ -17,8 +17,6 @@ ghost use Rattle.rules.specs.declared.Instants.{Instants};
 ghost use Rattle.rules.specs.Night as rule;
 ghost use Rattle.laws.specs.Instant.{InRange};
 ghost use Rattle.night.specs.Given.{SiteFits};
-
-mod parts;
 
 // A quarter of C and half of it, in µas.
 const QUARTER: i64 = 324000000000;

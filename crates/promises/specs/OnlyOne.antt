@@ -4,6 +4,7 @@ pub mod Rounding
 pub mod Roots
 pub mod Refusals
 pub mod Length
+pub mod Series
 pub mod Circle
 pub mod Reading
 pub mod Turning
@@ -14,8 +15,10 @@ pub mod Sidereal
 pub mod Sun
 pub mod Nutation
 pub mod Calendar
+pub mod Seconds
 pub mod Instants
 pub mod Stars
+pub mod NightParts
 pub mod Night
 pub mod Steps
 pub mod Place
@@ -24,9 +27,11 @@ pub mod StarFile
 pub mod StarRecords
 pub mod StarWriting
 pub mod StarList
+pub mod EntriesWriting
 pub mod NightPlan
 pub mod NightList
 pub mod Decimals
+pub mod Numerals
 pub mod Fields
 pub mod Lines
 pub mod Asking

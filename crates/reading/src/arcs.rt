@@ -1,10 +1,10 @@
 // The arc of a reading, document 01, "Turns, readings, place": θ whose tangent is u, in parts of
 // 2^30, and in µas.
 
-use circle::rows;
-use circle::units::HALF;
-use circle::units::HALF_IN_PARTS;
-use circle::units::UNIT;
+use series::rows;
+use series::units::HALF;
+use series::units::HALF_IN_PARTS;
+use series::units::UNIT;
 ghost use mathlib.Core.Path.{_≡_};
 ghost use lib.IntN.{ℤ, pos, natAbs};
 ghost use Rattle.rules.specs.Units.{unit};
@@ -12,7 +12,7 @@ ghost use Rattle.rules.specs.Rounding.{rnd};
 ghost use Rattle.rules.specs.Reading as rule;
 ghost use Rattle.laws.specs.Near.{UpTo};
 ghost use Rattle.laws.specs.Arc.{threeSevenths};
-ghost use Rattle.circle.specs.Given.{StageGiven};
+ghost use Rattle.series.specs.Given.{StageGiven};
 
 // p = Rnd(2^30 / k) - Rnd(w p / 2^30).
 fn arc_stage(w: i64, k: i64, p: i64) -> i64

@@ -1,11 +1,11 @@
 // The angle of a reading: in the first octant, in the first quarter, by the signs, and as a height.
 
 use crate::arcs;
-use circle::units::CIRCLE;
-use circle::units::HALF;
-use circle::units::HALF_QUARTER;
-use circle::units::QUARTER;
-use circle::units::UNIT;
+use series::units::CIRCLE;
+use series::units::HALF;
+use series::units::HALF_QUARTER;
+use series::units::QUARTER;
+use series::units::UNIT;
 ghost use mathlib.Core.Path.{_≡_};
 ghost use lib.IntN.{ℤ, natAbs};
 ghost use Rattle.rules.specs.Units.{quarter};

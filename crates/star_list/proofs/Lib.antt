@@ -1,5 +1,3 @@
--- what the walks need of lists and plans, and a slice that is lent again
+-- what the walk needs of lists and plans
 pub mod Lists
 pub mod Reading
-pub mod Writing
-pub mod Again

@@ -53,10 +53,10 @@ use Rattle.rules.proofs.Listed as L
 use Rattle.rules.proofs.Listed.Laws as L′
 use Rattle.inner_lists.proofs.InnerListed as O
 use Rattle.inner_lists.proofs.InnerListed.Laws as O′
-use Rattle.star_list.proofs.write_list as write
-use Rattle.star_list.proofs.write_list.Symbol as write-def
-use Rattle.star_list.proofs.write_list.Symbol.{name as #write-list}
-use Rattle.star_list.proofs.write_list.Met as write-thm
+use Rattle.entries_writing.proofs.write_list as write
+use Rattle.entries_writing.proofs.write_list.Symbol as write-def
+use Rattle.entries_writing.proofs.write_list.Symbol.{name as #write-list}
+use Rattle.entries_writing.proofs.write_list.Met as write-thm
 use Rattle.inner_lists.proofs.listed_out as out
 use Rattle.inner_lists.proofs.listed_out.Symbol as out-def
 use Rattle.inner_lists.proofs.listed_out.Symbol.{name as #listed-out}
@@ -243,6 +243,6 @@ inner-list-write-spec 𝓤 H 𝓜 𝓖 𝓡 =
     (code.unfolded 𝓤 H 𝓜 𝓡)
     (inner-meets 𝓤 H (𝓖 .A) (givenOf 𝓤 H 𝓜 𝓖) (𝓜 .mem) (𝓡 .run) (tablesOf 𝓤 H 𝓜 (tables 𝓤 H 𝓜 𝓡 code.env))
     (cited 𝓤 H (Write 𝓤 H (𝓖 .A) (𝓜 .mem) (𝓡 .run)) 𝓜 𝓡 code.env #write-list write-def.routine
-    code.calls-star-list·write-list (write-thm.met 𝓤 H 𝓜 𝓖 𝓡))
+    code.calls-entries-writing·write-list (write-thm.met 𝓤 H 𝓜 𝓖 𝓡))
     (cited 𝓤 H (Out 𝓤 H (𝓖 .A) (𝓜 .mem) (𝓡 .run)) 𝓜 𝓡 code.env #listed-out out-def.routine
     code.calls-inner-lists·listed-out (out-thm.met 𝓤 H 𝓜 𝓖 𝓡)))

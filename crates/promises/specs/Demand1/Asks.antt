@@ -33,7 +33,7 @@ use Rattle.star_file.proofs.reading.list_count as list-count
 use Rattle.star_file.proofs.reading.list_star as list-star
 use Rattle.star_writing.proofs.list_write as list-write
 use Rattle.star_list.proofs.read_list as read-list
-use Rattle.star_list.proofs.write_list as write-list
+use Rattle.entries_writing.proofs.write_list as write-list
 use Rattle.night_list.proofs.night_list as night-list
 
 module _ {M : Type 1} (𝓤 : URA M) (H : Heap 𝓤) (A : Atoms 𝓤) (mem : Memory → SProp 𝓤) (run : Routine → Fun 𝓤) where

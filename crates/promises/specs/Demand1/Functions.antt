@@ -48,7 +48,7 @@ use Rattle.night.proofs.night_of as night-of
 use Rattle.star_file.proofs.reading.list_count as list-count
 use Rattle.star_file.proofs.reading.list_star as list-star
 use Rattle.star_list.proofs.read_list as read-list
-use Rattle.star_list.proofs.write_list as write-list
+use Rattle.entries_writing.proofs.write_list as write-list
 use Rattle.star_writing.proofs.list_write as list-write
 use Rattle.night_list.proofs.night_list as night-list
 

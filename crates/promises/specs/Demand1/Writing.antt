@@ -1,4 +1,4 @@
--- Demand 1 of a list written into lent room, 5, 11: of entries by `star_list::write_list`, of a row of numbers by
+-- Demand 1 of a list written into lent room, 5, 11: of entries by `entries_writing::write_list`, of a row of numbers by
 -- `star_writing::list_write`.
 use mathlib.Core.Path.{_≡_, refl, ap, _∙_}
 use mathlib.Core.Logic.{_↔_}

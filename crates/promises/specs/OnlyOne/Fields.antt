@@ -6,19 +6,12 @@ use prog.Routine.{Routine}
 use prog.Wp.{Heap}
 use ghost.Atoms.{Atoms}
 use contract.Monad.{Fun}
-use Rattle.promises.specs.Contracts.{OneAnswer, one, one-and}
+use Rattle.promises.specs.Contracts.{OneAnswer, one}
 use Rattle.fields.proofs.alike as alike
 use Rattle.fields.proofs.of_form as of-form
 use Rattle.fields.proofs.field as field
 use Rattle.fields.proofs.difference as difference
 use Rattle.fields.proofs.line_of as line-of
-use Rattle.fields.proofs.numbers.is_digit as is-digit
-use Rattle.fields.proofs.numbers.of_digits as of-digits
-use Rattle.fields.proofs.numbers.negative as negative
-use Rattle.fields.proofs.numbers.of_number as of-number
-use Rattle.fields.proofs.numbers.value as value
-use Rattle.fields.proofs.numbers.spelled as spelled
-use Rattle.fields.proofs.numbers.signed as signed
 
 module _ {M : Type 1} (𝓤 : URA M) (H : Heap 𝓤) (A : Atoms 𝓤) (mem : Memory → SProp 𝓤) (run : Routine → Fun 𝓤) where
   pub alike-one : OneAnswer 𝓤 alike.ended (alike.clauses 𝓤 H A mem run)
@@ -35,24 +28,3 @@ module _ {M : Type 1} (𝓤 : URA M) (H : Heap 𝓤) (A : Atoms 𝓤) (mem : Mem
 
   pub line-of-one : OneAnswer 𝓤 line-of.ended (line-of.clauses 𝓤 H A mem run)
   line-of-one κs passed g r s x y = one 𝓤 r s _
-
-  pub is-digit-one : OneAnswer 𝓤 is-digit.ended (is-digit.clauses 𝓤 H A mem run)
-  is-digit-one κs passed g r s x y = one 𝓤 r s _
-
-  pub of-digits-one : OneAnswer 𝓤 of-digits.ended (of-digits.clauses 𝓤 H A mem run)
-  of-digits-one κs passed g r s x y = one 𝓤 r s _
-
-  pub negative-one : OneAnswer 𝓤 negative.ended (negative.clauses 𝓤 H A mem run)
-  negative-one κs passed g r s x y = one 𝓤 r s _
-
-  pub of-number-one : OneAnswer 𝓤 of-number.ended (of-number.clauses 𝓤 H A mem run)
-  of-number-one κs passed g r s x y = one 𝓤 r s _
-
-  pub value-one : OneAnswer 𝓤 value.ended (value.clauses 𝓤 H A mem run)
-  value-one κs passed g r s x y = one 𝓤 r s _
-
-  pub spelled-one : OneAnswer 𝓤 spelled.ended (spelled.clauses 𝓤 H A mem run)
-  spelled-one κs passed g r s x y = one-and 𝓤 r s _ _ _
-
-  pub signed-one : OneAnswer 𝓤 signed.ended (signed.clauses 𝓤 H A mem run)
-  signed-one κs passed g r s x y = one-and 𝓤 r s _ _ _

@@ -9,13 +9,8 @@ use contract.Monad.{Fun}
 use denote.Ref.{now}
 use Rattle.promises.specs.Contracts.{OneAnswerAndContent, one-both}
 use Rattle.star_list.proofs.read_list as read-list
-use Rattle.star_list.proofs.write_list as write-list
 
 module _ {M : Type 1} (𝓤 : URA M) (H : Heap 𝓤) (A : Atoms 𝓤) (mem : Memory → SProp 𝓤) (run : Routine → Fun 𝓤) where
   pub read-list-one : OneAnswerAndContent 𝓤 read-list.ended (read-list.clauses 𝓤 H A mem run)
       (λ κs x. now (x .1 .0))
   read-list-one κs passed g r s x y = one-both 𝓤 r s _ _ _ _
-
-  pub write-list-one : OneAnswerAndContent 𝓤 write-list.ended (write-list.clauses 𝓤 H A mem run)
-      (λ κs x. now (x .1 .0))
-  write-list-one κs passed g r s x y = one-both 𝓤 r s _ _ _ _

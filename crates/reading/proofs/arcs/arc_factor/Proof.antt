@@ -10,7 +10,7 @@ use Rattle.rules.specs.Reading as rule
 use Rattle.laws.specs.Near.{UpTo, upTo-pos, upTo-le}
 use Rattle.laws.specs.Arc.{first-range-unit, arcStages-range}
 use Rattle.words.specs.Holds.{Holds, bits, arg, got}
-use Rattle.circle.specs.Given.{StageGiven}
+use Rattle.series.specs.Given.{StageGiven}
 use Rattle.reading.proofs.arcs.arc_factor.Statement.{statement}
 use Rattle.reading.proofs.arcs.arc_factor.Tie as tie
 

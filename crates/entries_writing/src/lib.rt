@@ -1,0 +1,45 @@
+// The stars of lent entries, written as a list file.
+
+use rules::Entry;
+use rules::Listed;
+use star_records::put_entry;
+use star_writing::finish;
+use star_writing::tally;
+use star_writing::write_plan;
+ghost use mathlib.Core.Path.{_≡_};
+ghost use Rattle.rules.specs.StarList.{starsOf};
+ghost use Rattle.rules.specs.StarList.{listWritten, roomAfterWrite};
+ghost use Rattle.laws.specs.Records.{acceptedIn};
+
+// How many of the entries have a star that is accepted.
+fn accepted_entries(entries: &[Entry]) -> usize
+    ensures { λ r. ⌜ r ≡ acceptedIn (starsOf (now (entries .entry))) ⌝ }
+{
+    let mut n: usize = 0;
+    let mut i: usize = 0;
+    while i < entries.len() {
+        n = tally(n, entries[i]);
+        i += 1;
+    }
+    n
+}
+
+// The stars of entries written as a list file.
+//
+// Given: entries, any number, of which neither mark nor place is looked at; room, any.
+// Returned: the file's length, and the file at the start of room; the bytes past it stay. Or
+// refusal 5 or 11, and all bytes stay.
+// Rule: 01, "Lists".
+pub fn write_list(entries: &[Entry], room: &mut [u8]) -> Listed
+    ensures { λ r. ⌜ (r ≡ listWritten (now (entries .entry)) (now (room .entry)))
+        × (now (room .exit) ≡ roomAfterWrite (now (entries .entry)) (now (room .entry))) ⌝ }
+{
+    let accepted = accepted_entries(entries);
+    let plan = write_plan(accepted, entries.len(), room.len());
+    let todo = plan.todo;
+    let mut i: usize = 0;
+    while i < todo {
+        i = put_entry(room, i, entries[i]);
+    }
+    finish(room, plan)
+}

@@ -1,0 +1,37 @@
+-- `instants::seconds::before_step` meets its contract.
+use mathlib.Core.Path.{_≡_}
+use Prim.Native.Nat.{_+_}
+use lib.IntN.{pos, _+ℤ_}
+use borrow.Author.Needs.{needs}
+use Rattle.words.specs.Holds.{Holds, bits, _+ʷ_, arg, lit, add, add-ok}
+use Rattle.rules.specs.Dates.{taiMinusUtc, beforeStep}
+use Rattle.seconds.proofs.before_step.Statement.{statement}
+use Rattle.seconds.proofs.before_step.Tie as tie
+
+day : (c : tie.Start) → Holds (bits (c .args .day)) (c .args .day) 36524
+day c = arg (c .args .day) (c .pre) tt
+
+next : (c : tie.Start) → Holds (bits (c .args .day) +ʷ 1) (c .args .day +ℤ pos 1) (36524 + 1)
+next c = add (day c) (lit 1 tt) tt
+
+tai-minus-utc-requires : tie.Need-tai-minus-utc-requires
+tai-minus-utc-requires c κs = search needs
+
+add-tai-minus-utc : tie.Need-add-tai-minus-utc
+add-tai-minus-utc c = add-ok (day (c .before)) (lit 1 tt) tt
+
+tai-minus-utc-requires-2 : tie.Need-tai-minus-utc-requires-2
+tai-minus-utc-requires-2 c κs = search needs
+
+returns : tie.Need-returns
+unfolding beforeStep
+returns c =
+    let s = c .before .before in
+    let p : c .before .tai-minus-utc .result ≡ pos (taiMinusUtc (s .args .day)) =
+    rw (day s .value) at (c .before .tai-minus-utc .ensures) in
+    let q : c .tai-minus-utc2 .result ≡ pos (taiMinusUtc (s .args .day +ℤ pos 1)) =
+    rw (next s .value) at (c .tai-minus-utc2 .ensures) in
+    rw (p, q)
+
+pub before-step-spec : {M : Type 1} → statement M
+before-step-spec = tie.close (tie.spec tai-minus-utc-requires add-tai-minus-utc tai-minus-utc-requires-2 returns)

@@ -1,0 +1,2 @@
+-- What the functions ask of their numbers.
+pub mod Given
