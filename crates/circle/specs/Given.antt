@@ -1,8 +1,7 @@
 -- What the private functions ask of their numbers, by name: each is met for every angle and every reading.
-use Prim.Native.Nat.{_≤_, _<_}
+use Prim.Native.Nat.{_≤_}
 use lib.IntN.{ℤ, natAbs}
 use Rattle.rules.specs.Units.{unit}
-use Rattle.rules.specs.Length.{root, pairSquares}
 use Rattle.rules.specs.declared.Pair.{Pair}
 use Rattle.laws.specs.Near.{UpTo}
 

@@ -18,7 +18,7 @@ use Rattle.laws.specs.FileLength.{records, record-length, records-length, headO
 use Rattle.laws.specs.ListWriting.{write-accepted}
 use Rattle.star_file.specs.declared.Plan.{Plan}
 use Rattle.star_file.specs.Plans.{planOf}
-use Rattle.star_writing.specs.Plans.{writePlan, Ready}
+use Rattle.writing_plan.specs.Plans.{writePlan, Ready}
 use Rattle.star_bytes.specs.Puts.{put, put-length, put-none, put-put}
 use Rattle.star_records.specs.Records.{file-put}
 use Rattle.star_list.proofs.Lists.{snoc-length}

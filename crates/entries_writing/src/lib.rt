@@ -3,9 +3,9 @@
 use rules::Entry;
 use rules::Listed;
 use star_records::put_entry;
-use star_writing::finish;
-use star_writing::tally;
-use star_writing::write_plan;
+use writing_plan::finish;
+use writing_plan::tally;
+use writing_plan::write_plan;
 ghost use mathlib.Core.Path.{_≡_};
 ghost use Rattle.rules.specs.StarList.{starsOf};
 ghost use Rattle.rules.specs.StarList.{listWritten, roomAfterWrite};

@@ -25,6 +25,7 @@ pub mod Place
 pub mod StarBytes
 pub mod StarFile
 pub mod StarRecords
+pub mod WritingPlan
 pub mod StarWriting
 pub mod StarList
 pub mod EntriesWriting

@@ -1,22 +1,15 @@
-// A list file written: the checks, and a whole file from a row of numbers.
+// A list file of a row of numbers, written at once.
 
-use rules::Entry;
 use rules::Listed;
 use rules::Refusal;
-use star_file::Plan;
 use star_records::put_head;
 use star_records::put_star;
 use stars::numbers_refused;
-use stars::star_refused;
 ghost use mathlib.Core.Path.{_≡_};
-ghost use mathlib.Core.Bool.{cond};
 ghost use lib.ListN.{length};
-ghost use Prim.Native.Nat.{_+_, _*_, _<_, _≤_, _^_};
-ghost use Rattle.rules.specs.Place.{starRefused};
-ghost use Rattle.rules.specs.StarList.{anyRefused, leaving, starsFrom};
+ghost use Prim.Native.Nat.{_+_, _*_, _≤_};
+ghost use Rattle.rules.specs.StarList.{anyRefused, starsFrom};
 ghost use Rattle.rules.specs.StarList.{numbersWritten, roomAfterNumbers};
-ghost use Rattle.laws.specs.FileLength.{headOf};
-ghost use Rattle.star_writing.specs.Plans.{Ready, writePlan};
 ghost use Rattle.star_bytes.specs.Puts.{put};
 ghost use Rattle.star_records.specs.Records.{lowRecords};
 
@@ -26,58 +19,6 @@ const HEAD: usize = 7;
 const RECORD: usize = 24;
 
 const MOST: usize = 64;
-
-// One more where the entry's star is accepted.
-pub fn tally(n: usize, entry: Entry) -> usize
-    requires { ⌜ n < 2 ^ 63 ⌝ }
-    ensures { λ r. ⌜ r ≡ n + cond (starRefused (entry .star)) 0 1 ⌝ }
-{
-    if star_refused(entry.star) { n } else { n + 1 }
-}
-
-// The checks of writing `count` stars, `accepted` of which are accepted: 5, then 11.
-pub fn write_plan(accepted: usize, count: usize, room: usize) -> Plan
-    ensures { λ r. ⌜ r ≡ writePlan accepted count room ⌝ }
-{
-    if accepted != count {
-        return Plan {
-            answer: Listed::Refused(Refusal::Star),
-            todo: 0,
-        };
-    }
-    if MOST < count {
-        return Plan {
-            answer: Listed::Refused(Refusal::Room),
-            todo: 0,
-        };
-    }
-    if room < HEAD + RECORD * count {
-        return Plan {
-            answer: Listed::Refused(Refusal::Room),
-            todo: 0,
-        };
-    }
-    Plan {
-        answer: Listed::Count(HEAD + RECORD * count),
-        todo: count,
-    }
-}
-
-// The head of the file, after its records, where the list was not refused; and the answer.
-pub fn finish(room: &mut [u8], plan: Plan) -> Listed
-    requires { ⌜ Ready plan (length (now room)) ⌝ }
-    ensures { λ r. ⌜ (r ≡ plan .answer) × (now (room .exit) ≡ leaving (plan .answer)
-        (put (now (room .entry)) 0 (headOf (plan .todo))) (now (room .entry))) ⌝ }
-{
-    let answer = plan.answer;
-    match answer {
-        Listed::Refused(r) => Listed::Refused(r),
-        Listed::Count(size) => {
-            put_head(room, plan.todo);
-            Listed::Count(size)
-        }
-    }
-}
 
 // Refusal 5: one of the first `count` stars of a row of numbers is refused.
 fn any_refused(numbers: &[i64], count: usize) -> bool

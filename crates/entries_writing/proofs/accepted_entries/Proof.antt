@@ -59,10 +59,10 @@ use Rattle.star_list.proofs.Lists.{snoc-length}
 use Rattle.entries_writing.proofs.Writing.{acceptedOne, acceptedAll, accepted-most, accepted-more}
 use Rattle.rules.proofs.Entry as T
 use Rattle.rules.proofs.Entry.Laws as T′
-use Rattle.star_writing.proofs.tally as tally
-use Rattle.star_writing.proofs.tally.Symbol as tally-def
-use Rattle.star_writing.proofs.tally.Symbol.{name as #tally}
-use Rattle.star_writing.proofs.tally.Met as tally-thm
+use Rattle.writing_plan.proofs.tally as tally
+use Rattle.writing_plan.proofs.tally.Symbol as tally-def
+use Rattle.writing_plan.proofs.tally.Symbol.{name as #tally}
+use Rattle.writing_plan.proofs.tally.Met as tally-thm
 use Rattle.entries_writing.proofs.accepted_entries.Key.{name as #accepted-entries}
 use Rattle.entries_writing.proofs.accepted_entries as accepted
 use Rattle.entries_writing.proofs.accepted_entries.Statement as stated
@@ -303,4 +303,4 @@ accepted-entries-spec 𝓤 H 𝓜 𝓖 𝓡 =
     (tables 𝓤 H 𝓜 𝓡 code.env .C) (tables 𝓤 H 𝓜 𝓡 code.env .Λ) #accepted-entries code.function (code.unfolded 𝓤 H 𝓜 𝓡)
     (accepted-meets 𝓤 H (𝓖 .A) (givenOf 𝓤 H 𝓜 𝓖) (𝓜 .mem) (𝓡 .run) (tablesOf 𝓤 H 𝓜 (tables 𝓤 H 𝓜 𝓡 code.env))
     (cited 𝓤 H (Tally 𝓤 H (𝓖 .A) (𝓜 .mem) (𝓡 .run)) 𝓜 𝓡 code.env #tally tally-def.routine
-    code.calls-star-writing·tally (tally-thm.met 𝓤 H 𝓜 𝓖 𝓡)))
+    code.calls-writing-plan·tally (tally-thm.met 𝓤 H 𝓜 𝓖 𝓡)))

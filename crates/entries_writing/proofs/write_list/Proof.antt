@@ -61,7 +61,7 @@ use Rattle.rules.specs.declared.Listed.{Listed}
 use Rattle.rules.specs.StarList.{recordOf, leaving, roomAfterWrite}
 use Rattle.laws.specs.FileLength.{headOf}
 use Rattle.star_file.specs.declared.Plan.{Plan}
-use Rattle.star_writing.specs.Plans.{writePlan, Ready}
+use Rattle.writing_plan.specs.Plans.{writePlan, Ready}
 use Rattle.star_bytes.specs.Puts.{put}
 use Rattle.entries_writing.proofs.Again.{LentAgain, lends-again, comes-back}
 use Rattle.star_list.proofs.Lists.{snoc-length}
@@ -77,18 +77,18 @@ use Rattle.entries_writing.proofs.accepted_entries as accepted
 use Rattle.entries_writing.proofs.accepted_entries.Symbol as accepted-def
 use Rattle.entries_writing.proofs.accepted_entries.Symbol.{name as #accepted-entries}
 use Rattle.entries_writing.proofs.accepted_entries.Met as accepted-thm
-use Rattle.star_writing.proofs.write_plan as plan
-use Rattle.star_writing.proofs.write_plan.Symbol as plan-def
-use Rattle.star_writing.proofs.write_plan.Symbol.{name as #write-plan}
-use Rattle.star_writing.proofs.write_plan.Met as plan-thm
+use Rattle.writing_plan.proofs.write_plan as plan
+use Rattle.writing_plan.proofs.write_plan.Symbol as plan-def
+use Rattle.writing_plan.proofs.write_plan.Symbol.{name as #write-plan}
+use Rattle.writing_plan.proofs.write_plan.Met as plan-thm
 use Rattle.star_records.proofs.put_entry as record′
 use Rattle.star_records.proofs.put_entry.Symbol as record′-def
 use Rattle.star_records.proofs.put_entry.Symbol.{name as #put-entry}
 use Rattle.star_records.proofs.put_entry.Met as record′-thm
-use Rattle.star_writing.proofs.finish as finish
-use Rattle.star_writing.proofs.finish.Symbol as finish-def
-use Rattle.star_writing.proofs.finish.Symbol.{name as #finish}
-use Rattle.star_writing.proofs.finish.Met as finish-thm
+use Rattle.writing_plan.proofs.finish as finish
+use Rattle.writing_plan.proofs.finish.Symbol as finish-def
+use Rattle.writing_plan.proofs.finish.Symbol.{name as #finish}
+use Rattle.writing_plan.proofs.finish.Met as finish-thm
 use Rattle.entries_writing.proofs.write_list.Key.{name as #write-list}
 use Rattle.entries_writing.proofs.write_list as write
 use Rattle.entries_writing.proofs.write_list.Statement as stated
@@ -829,8 +829,8 @@ write-list-spec 𝓤 H 𝓜 𝓖 𝓡 =
     (cited 𝓤 H (Accepted 𝓤 H (𝓖 .A) (𝓜 .mem) (𝓡 .run)) 𝓜 𝓡 code.env #accepted-entries accepted-def.routine
     code.calls-entries-writing·accepted-entries (accepted-thm.met 𝓤 H 𝓜 𝓖 𝓡))
     (cited 𝓤 H (PlanOf 𝓤 H (𝓖 .A) (𝓜 .mem) (𝓡 .run)) 𝓜 𝓡 code.env #write-plan plan-def.routine
-    code.calls-star-writing·write-plan (plan-thm.met 𝓤 H 𝓜 𝓖 𝓡))
+    code.calls-writing-plan·write-plan (plan-thm.met 𝓤 H 𝓜 𝓖 𝓡))
     (cited 𝓤 H (PutRecord 𝓤 H (𝓖 .A) (𝓜 .mem) (𝓡 .run)) 𝓜 𝓡 code.env #put-entry record′-def.routine
     code.calls-star-records·put-entry (record′-thm.met 𝓤 H 𝓜 𝓖 𝓡))
     (cited 𝓤 H (Finish 𝓤 H (𝓖 .A) (𝓜 .mem) (𝓡 .run)) 𝓜 𝓡 code.env #finish finish-def.routine
-    code.calls-star-writing·finish (finish-thm.met 𝓤 H 𝓜 𝓖 𝓡)))
+    code.calls-writing-plan·finish (finish-thm.met 𝓤 H 𝓜 𝓖 𝓡)))

@@ -1,4 +1,4 @@
--- `night::parts::aberration` meets its contract.
+-- `night_parts::aberration` meets its contract.
 use mathlib.Core.Path.{_∙_}
 use native.Mathlib.Omega.{arith}
 use borrow.Author.Needs.{needs}

@@ -1,4 +1,4 @@
--- `night::parts::latitude_pair` meets its contract.
+-- `night_parts::latitude_pair` meets its contract.
 use Prim.Native.Nat.{_+_, _^_}
 use borrow.Author.Needs.{needs}
 use lib.IntN.{pos, _-ℤ_}

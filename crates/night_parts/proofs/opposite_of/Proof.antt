@@ -1,4 +1,4 @@
--- `night::parts::opposite_of` meets its contract.
+-- `night_parts::opposite_of` meets its contract.
 use Rattle.words.specs.Holds.{Holds, bits, arg, negate, negate-ok}
 use Rattle.rules.specs.Units.{unit}
 use Rattle.night_parts.proofs.opposite_of.Statement.{statement}

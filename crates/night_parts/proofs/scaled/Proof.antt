@@ -1,4 +1,4 @@
--- `night::parts::scaled` meets its contract.
+-- `night_parts::scaled` meets its contract.
 use mathlib.Core.Path.{_∙_}
 use Prim.Native.Nat.{_^_}
 use borrow.Author.Needs.{needs}

@@ -1,4 +1,4 @@
--- `night::parts::sidereal_pair` meets its contract.
+-- `night_parts::sidereal_pair` meets its contract.
 use Prim.Native.Nat.{_+_, _*_, _^_}
 use borrow.Author.Needs.{needs}
 use lib.IntN.{ℤ, _+ℤ_, _*ℤ_}

@@ -1,4 +1,4 @@
--- `fields::numbers::is_digit` meets its contract.
+-- `numerals::is_digit` meets its contract.
 use borrow.Author.Tests.{le-leb, lt-leb}
 use Rattle.rules.specs.Lines.{isDigit}
 use Rattle.numerals.proofs.is_digit.Statement.{statement}

@@ -1,4 +1,4 @@
--- `fields::numbers::negative` meets its contract.
+-- `numerals::negative` meets its contract.
 use mathlib.Core.Path.{sym}
 use native.Mathlib.Omega.{arith}
 use borrow.Author.Needs.{needs}

@@ -1,4 +1,4 @@
--- `fields::numbers::of_digits` meets its contract. The bytes passed are digits; the measure is the bytes left.
+-- `numerals::of_digits` meets its contract. The bytes passed are digits; the measure is the bytes left.
 use mathlib.Core.Path.{_≡_, refl, sym, _∙_}
 use mathlib.Core.Bool.{Bool, true, false, _&&_}
 use mathlib.Core.List.{List}

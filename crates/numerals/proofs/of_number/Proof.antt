@@ -1,4 +1,4 @@
--- `fields::numbers::of_number` meets its contract.
+-- `numerals::of_number` meets its contract.
 use mathlib.Core.Path.{_≡_, sym, _∙_, ap}
 use mathlib.Core.Bool.{Bool, true, false}
 use Prim.Native.Nat.{_≤_}

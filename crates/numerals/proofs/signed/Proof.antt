@@ -1,4 +1,4 @@
--- `fields::numbers::signed` meets its contract.
+-- `numerals::signed` meets its contract.
 use mathlib.Core.Path.{_≡_, refl, sym, _∙_, ap}
 use mathlib.Core.Bool.{Bool, true, false}
 use mathlib.Core.List.{List}

@@ -1,4 +1,4 @@
--- `fields::numbers::spelled` meets its contract. The number so far, with the bytes left, is the number; the measure is
+-- `numerals::spelled` meets its contract. The number so far, with the bytes left, is the number; the measure is
 -- the
 -- bytes left.
 use mathlib.Core.Path.{_≡_, refl, sym, _∙_, ap}

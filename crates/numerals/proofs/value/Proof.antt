@@ -1,4 +1,4 @@
--- `fields::numbers::value` meets its contract.
+-- `numerals::value` meets its contract.
 use mathlib.Core.Path.{ap}
 use Prim.Native.Nat.{_-_}
 use native.Mathlib.Omega.{arith}

@@ -7,23 +7,10 @@ use prog.Wp.{Heap}
 use ghost.Atoms.{Atoms}
 use contract.Monad.{Fun}
 use denote.Ref.{now}
-use Rattle.promises.specs.Contracts.{OneAnswer, OneAnswerAndContent, one, one-both}
-use Rattle.star_writing.proofs.tally as tally
-use Rattle.star_writing.proofs.write_plan as write-plan
-use Rattle.star_writing.proofs.finish as finish
+use Rattle.promises.specs.Contracts.{OneAnswerAndContent, one-both}
 use Rattle.star_writing.proofs.list_write as list-write
 
 module _ {M : Type 1} (𝓤 : URA M) (H : Heap 𝓤) (A : Atoms 𝓤) (mem : Memory → SProp 𝓤) (run : Routine → Fun 𝓤) where
-  pub tally-one : OneAnswer 𝓤 tally.ended (tally.clauses 𝓤 H A mem run)
-  tally-one κs passed g r s x y = one 𝓤 r s _
-
-  pub write-plan-one : OneAnswer 𝓤 write-plan.ended (write-plan.clauses 𝓤 H A mem run)
-  write-plan-one κs passed g r s x y = one 𝓤 r s _
-
-  pub finish-one : OneAnswerAndContent 𝓤 finish.ended (finish.clauses 𝓤 H A mem run)
-      (λ κs x. now (x .0))
-  finish-one κs passed g r s x y = one-both 𝓤 r s _ _ _ _
-
   pub list-write-one : OneAnswerAndContent 𝓤 list-write.ended (list-write.clauses 𝓤 H A mem run)
       (λ κs x. now (x .1 .0))
   list-write-one κs passed g r s x y = one-both 𝓤 r s _ _ _ _

@@ -1,4 +1,4 @@
--- `instants::seconds::before_step` meets its contract.
+-- `seconds::before_step` meets its contract.
 use mathlib.Core.Path.{_≡_}
 use Prim.Native.Nat.{_+_}
 use lib.IntN.{pos, _+ℤ_}

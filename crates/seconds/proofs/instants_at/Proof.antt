@@ -1,4 +1,4 @@
--- `instants::seconds::instants_at` meets its contract.
+-- `seconds::instants_at` meets its contract.
 use Prim.Native.Nat.{ℕ, _+_, _*_}
 use lib.IntN.{ℤ, pos, _+ℤ_, _*ℤ_}
 use borrow.Author.Needs.{needs}

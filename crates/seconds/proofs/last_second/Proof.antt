@@ -1,4 +1,4 @@
--- `instants::seconds::last_second` meets its contract.
+-- `seconds::last_second` meets its contract.
 use mathlib.Core.Path.{_≡_, sym, _∙_}
 use mathlib.Core.Bool.{Bool, true, false}
 use lib.Dec.{lit<}

@@ -1,4 +1,4 @@
--- `instants::seconds::ms_of_day` meets its contract.
+-- `seconds::ms_of_day` meets its contract.
 use Prim.Native.Nat.{_+_, _*_}
 use lib.IntN.{pos, _+ℤ_, _*ℤ_}
 use Rattle.words.specs.Holds.{Holds, bits, _+ʷ_, _*ʷ_, lit, arg, add, add-ok, mul, mul-ok}

@@ -1,4 +1,4 @@
--- `instants::seconds::tai_minus_utc` meets its contract. The seconds, and the steps still to come that are counted,
+-- `seconds::tai_minus_utc` meets its contract. The seconds, and the steps still to come that are counted,
 -- make
 -- the answer; the measure is the steps left.
 use mathlib.Core.Path.{_≡_, sym, _∙_, ap}

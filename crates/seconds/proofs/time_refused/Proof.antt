@@ -1,4 +1,4 @@
--- `instants::seconds::time_refused` meets its contract.
+-- `seconds::time_refused` meets its contract.
 use mathlib.Core.Path.{_≡_, sym, _∙_}
 use mathlib.Core.Bool.{Bool, true, false}
 use lib.IntN.{pos}

@@ -1,4 +1,4 @@
--- `circle::parts::pair_of_parts` meets its contract.
+-- `series::parts::pair_of_parts` meets its contract.
 use Prim.Native.Nat.{_*_}
 use mathlib.Core.Path.{_∙_}
 use native.Mathlib.Omega.{arith}

@@ -1,4 +1,4 @@
--- `circle::parts::pair_to_length` meets its contract.
+-- `series::parts::pair_to_length` meets its contract.
 use Prim.Native.Nat.{ℕ, _+_, _*_, _≤_}
 use mathlib.Core.Path.{_≡_}
 use native.Mathlib.Omega.{arith}

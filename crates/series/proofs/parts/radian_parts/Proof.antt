@@ -1,4 +1,4 @@
--- `circle::parts::radian_parts` meets its contract.
+-- `series::parts::radian_parts` meets its contract.
 use mathlib.Core.Path.{_∙_}
 use borrow.Author.Needs.{needs}
 use Rattle.rules.specs.Units.{halfQuarter}

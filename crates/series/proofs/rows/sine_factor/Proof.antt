@@ -1,4 +1,4 @@
--- `circle::rows::sine_factor` meets its contract: what p is after each stage, and that it lies from nought to a whole.
+-- `series::rows::sine_factor` meets its contract: what p is after each stage, and that it lies from nought to a whole.
 use Prim.Native.Nat.{ℕ, _≤_, _<_}
 use lib.Dec.{lit<, lit≤}
 use lib.IntN.{ℤ, pos}

@@ -1,4 +1,4 @@
--- `circle::rows::square_parts` meets its contract.
+-- `series::rows::square_parts` meets its contract.
 use Prim.Native.Nat.{_*_}
 use mathlib.Core.Path.{_∙_}
 use native.Mathlib.Omega.{arith}

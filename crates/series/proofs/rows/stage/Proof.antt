@@ -1,4 +1,4 @@
--- `circle::rows::stage` meets its contract.
+-- `series::rows::stage` meets its contract.
 use Prim.Native.Nat.{_*_, _<_}
 use native.Mathlib.Omega.{arith}
 use lib.Dec.{lt→ltb}

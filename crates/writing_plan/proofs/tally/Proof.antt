@@ -1,11 +1,11 @@
--- `star_writing::tally` meets its contract.
+-- `writing_plan::tally` meets its contract.
 use mathlib.Core.Path.{_≡_, sym, ap, _∙_}
 use mathlib.Core.Bool.{cond}
 use Prim.Native.Nat.{_+_}
 use native.Mathlib.Omega.{arith}
 use borrow.Author.Needs.{needs}
-use Rattle.star_writing.proofs.tally.Statement.{statement}
-use Rattle.star_writing.proofs.tally.Tie as tie
+use Rattle.writing_plan.proofs.tally.Statement.{statement}
+use Rattle.writing_plan.proofs.tally.Tie as tie
 
 star-refused-requires : tie.Need-star-refused-requires
 star-refused-requires c κs = search needs

@@ -1,11 +1,11 @@
--- `star_writing::write_plan` meets its contract.
+-- `writing_plan::write_plan` meets its contract.
 use borrow.Author.Needs.{needs}
 use borrow.Author.Tests.{eq-eqb, ne-eqb, lt-ltb, le-ltb}
 use Rattle.rules.specs.StarList.{fileLength, leaving, roomRefused, writtenOf}
 use Rattle.star_file.specs.Plans.{planOf}
-use Rattle.star_writing.specs.Plans.{writePlan}
-use Rattle.star_writing.proofs.write_plan.Statement.{statement}
-use Rattle.star_writing.proofs.write_plan.Tie as tie
+use Rattle.writing_plan.specs.Plans.{writePlan}
+use Rattle.writing_plan.proofs.write_plan.Statement.{statement}
+use Rattle.writing_plan.proofs.write_plan.Tie as tie
 
 returns : tie.Need-returns
 unfolding writePlan planOf writtenOf leaving

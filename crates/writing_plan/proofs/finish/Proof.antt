@@ -1,4 +1,4 @@
--- `star_writing::finish` meets its contract.
+-- `writing_plan::finish` meets its contract.
 use mathlib.Core.Path.{_≡_, sym, _∙_}
 use mathlib.Core.List.{List}
 use Prim.Native.Nat.{ℕ}
@@ -8,8 +8,8 @@ use Rattle.rules.specs.declared.Refusal.{Refusal}
 use Rattle.rules.specs.StarList.{leaving}
 use Rattle.laws.specs.FileLength.{headOf}
 use Rattle.star_bytes.specs.Puts.{put}
-use Rattle.star_writing.proofs.finish.Statement.{statement}
-use Rattle.star_writing.proofs.finish.Tie as tie
+use Rattle.writing_plan.proofs.finish.Statement.{statement}
+use Rattle.writing_plan.proofs.finish.Tie as tie
 
 -- what is left in memory, by the answer
 refused-keeps : (answer : Listed) (r : Refusal) (new old : List ℕ) → answer ≡ Listed.Refused r
