@@ -77,8 +77,7 @@ pub fn length_root(n: i64) -> i64
 }
 
 // The root of a number near 2^60: from LOW on, squares go up by little less than 2^31, so that the
-// quotient is the root or
-// one below.
+// quotient is the root or one below.
 fn near_root(n: i64) -> i64
     requires { ⌜ NearSquare n ⌝ }
     ensures { λ r. ⌜ r ≡ pos (root (natAbs n)) ⌝ }

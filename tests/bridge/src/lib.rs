@@ -16,3 +16,4 @@ pub mod entries;
 pub mod face;
 pub mod files;
 pub mod function;
+pub mod ranges;

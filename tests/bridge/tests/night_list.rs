@@ -9,31 +9,20 @@ use bridge::entries::{bytes_of_entries, entries, entry};
 use bridge::face::NIGHT_LIST;
 use bridge::files::{count, refused_stars, star};
 use bridge::function::Call;
+use bridge::ranges::RANGES;
 use second::star_list::Entry;
-use second::units::{HALF_CIRCLE, QUARTER};
+use second::units::QUARTER;
 
 const RANDOM: usize = 2_000;
 
-/// Date and time, and site: the least and the most of each part.
-const RANGES: [(i64, i64); 10] = {
-    let (quarter, half_circle) = (QUARTER as i64, HALF_CIRCLE as i64);
-    [
-        (1972, 2099),
-        (1, 12),
-        (1, 28),
-        (0, 23),
-        (0, 59),
-        (0, 59),
-        (0, 999),
-        (-900, 900),
-        (-quarter, quarter),
-        (-half_circle, half_circle),
-    ]
-};
-
-/// A moment and a site that are accepted.
+/// A moment and a site that are accepted: no month is shorter than 28 days.
 fn given(chance: &mut Chance) -> [i64; 10] {
-    RANGES.map(|(low, high)| chance.within(low, high))
+    let mut given = std::array::from_fn(|part| {
+        let (low, high) = RANGES[part];
+        chance.within(low, high)
+    });
+    given[2] = given[2].min(28);
+    given
 }
 
 fn list(given: [i64; 10], entries: &[Entry]) -> Call<10> {

@@ -5,30 +5,9 @@ use bridge::beside::place;
 use bridge::chance::Chance;
 use bridge::compare::compare;
 use bridge::face::PLACE;
-use second::units::{CIRCLE, HALF_CIRCLE, QUARTER};
+use bridge::ranges::RANGES;
 
 const RANDOM: usize = 205_000;
-
-/// Date and time, site, star: the least and the most of each part.
-const RANGES: [(i64, i64); 14] = {
-    let (quarter, half_circle, last) = (QUARTER as i64, HALF_CIRCLE as i64, CIRCLE as i64 - 1);
-    [
-        (1972, 2099),
-        (1, 12),
-        (1, 31),
-        (0, 23),
-        (0, 59),
-        (0, 59),
-        (0, 999),
-        (-900, 900),
-        (-quarter, quarter),
-        (-half_circle, half_circle),
-        (0, last),
-        (-quarter, quarter),
-        (-100_000_000, 100_000_000),
-        (-100_000_000, 100_000_000),
-    ]
-};
 
 /// J2000.0, a site and a star without motion.
 const GOOD: [i64; 14] = [2000, 1, 1, 12, 0, 0, 0, 0, 0, 0, 0, 0, 0, 0];
