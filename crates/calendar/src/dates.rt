@@ -1,11 +1,11 @@
 // Dates of the span, and the days of the span before them.
 
-use crate::years::leap;
-use crate::years::month_days;
-use crate::years::months_before;
-use crate::years::years_before;
 use rules::Date;
 use whole::is_between;
+use years::leap;
+use years::month_days;
+use years::months_before;
+use years::years_before;
 ghost use mathlib.Core.Path.{_≡_};
 ghost use lib.IntN.{natAbs};
 ghost use Rattle.rules.specs.Calendar as rule;

@@ -12,7 +12,6 @@ ghost use mathlib.Core.Path.{_≡_};
 ghost use Rattle.rules.specs.Calendar.{dayOf, dateOf};
 
 pub mod dates;
-mod years;
 
 // The day number of a date.
 //

@@ -1,8 +1,8 @@
 // Nutation by its ten largest terms, of TT.
 
-use crate::terms::term_at;
 use arguments::arguments_of;
 use circle::pair;
+use nutation_terms::term_at;
 use polynomials::linear;
 use polynomials::refused_instant;
 use rounding::rnd_quotient;
@@ -16,10 +16,8 @@ ghost use mathlib.Core.Path.{_≡_};
 ghost use Rattle.rules.specs.Polynomials as rule;
 ghost use Rattle.rules.specs.Nutation.{termAngle, nutation, nutationAt};
 ghost use Rattle.laws.specs.Instant.{InRange};
-ghost use Rattle.nutation.specs.Terms.{productsOf};
-ghost use Rattle.nutation.specs.TermFits.{ArgumentsFit, TermFits};
-
-mod terms;
+ghost use Rattle.nutation_terms.specs.Terms.{productsOf};
+ghost use Rattle.nutation_terms.specs.TermFits.{ArgumentsFit, TermFits};
 
 // 1 in a cosine or a sine.
 const UNIT: i64 = 1073741824;

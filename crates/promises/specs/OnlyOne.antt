@@ -6,14 +6,19 @@ pub mod Refusals
 pub mod Length
 pub mod Series
 pub mod Circle
+pub mod Arcs
+pub mod Octants
 pub mod Reading
+pub mod Axes
 pub mod Turning
 pub mod Polynomials
 pub mod Arguments
 pub mod Precession
 pub mod Sidereal
 pub mod Sun
+pub mod NutationTerms
 pub mod Nutation
+pub mod Years
 pub mod Calendar
 pub mod Seconds
 pub mod Instants
@@ -27,6 +32,7 @@ pub mod StarFile
 pub mod StarRecords
 pub mod WritingPlan
 pub mod StarWriting
+pub mod ReadingPlan
 pub mod StarList
 pub mod EntriesWriting
 pub mod NightPlan

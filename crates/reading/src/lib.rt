@@ -8,9 +8,6 @@ ghost use Rattle.rules.specs.Length.{squares};
 ghost use Rattle.rules.specs.Turning.{Accepted};
 ghost use Rattle.rules.specs.Reading as readings;
 
-mod arcs;
-mod octants;
-
 // The angle of (h, v), from the first axis towards the second.
 //
 // Given: h, v, any.

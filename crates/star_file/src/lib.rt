@@ -1,9 +1,8 @@
-// A list file read: its checks, a star by its index, a record as an entry.
+// A list file read: its checks, and a star by its index.
 
 use rules::Listed;
 ghost use mathlib.Core.Path.{_≡_};
 
-pub mod entries;
 pub mod reading;
 
 // What the checks of a list came to: its answer, and how many records are to be worked.

@@ -1,10 +1,10 @@
 // The star list file, read into lent entries.
 
+use reading_plan::entry_at;
+use reading_plan::read_plan;
 use rules::Entry;
 use rules::Listed;
 use star_file::answer_of;
-use star_file::entries::entry_at;
-use star_file::entries::read_plan;
 ghost use mathlib.Core.Path.{_≡_};
 ghost use Rattle.rules.specs.StarList.{listRead, entriesAfterRead};
 

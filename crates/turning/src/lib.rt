@@ -7,9 +7,7 @@ use rules::Turned;
 ghost use mathlib.Core.Path.{_≡_};
 ghost use mathlib.Core.Bool.{not};
 ghost use Rattle.rules.specs.Turning.{turnRefused, turnBy, turned};
-ghost use Rattle.turning.specs.Given.{TurnFits};
-
-mod axes;
+ghost use Rattle.axes.specs.Given.{TurnFits};
 
 // C: the circle, in µas.
 const CIRCLE: i64 = 1296000000000;

@@ -8,8 +8,6 @@ use ghost.Atoms.{Atoms}
 use contract.Monad.{Fun}
 use Rattle.promises.specs.Contracts.{OneAnswer, one}
 use Rattle.star_file.proofs.answer_of as answer-of
-use Rattle.star_file.proofs.entries.read_plan as read-plan
-use Rattle.star_file.proofs.entries.entry_at as entry-at
 use Rattle.star_file.proofs.reading.star_at as star-at
 use Rattle.star_file.proofs.reading.list_count as list-count
 use Rattle.star_file.proofs.reading.list_star as list-star
@@ -17,12 +15,6 @@ use Rattle.star_file.proofs.reading.list_star as list-star
 module _ {M : Type 1} (𝓤 : URA M) (H : Heap 𝓤) (A : Atoms 𝓤) (mem : Memory → SProp 𝓤) (run : Routine → Fun 𝓤) where
   pub answer-of-one : OneAnswer 𝓤 answer-of.ended (answer-of.clauses 𝓤 H A mem run)
   answer-of-one κs passed g r s x y = one 𝓤 r s _
-
-  pub read-plan-one : OneAnswer 𝓤 read-plan.ended (read-plan.clauses 𝓤 H A mem run)
-  read-plan-one κs passed g r s x y = one 𝓤 r s _
-
-  pub entry-at-one : OneAnswer 𝓤 entry-at.ended (entry-at.clauses 𝓤 H A mem run)
-  entry-at-one κs passed g r s x y = one 𝓤 r s _
 
   pub star-at-one : OneAnswer 𝓤 star-at.ended (star-at.clauses 𝓤 H A mem run)
   star-at-one κs passed g r s x y = one 𝓤 r s _

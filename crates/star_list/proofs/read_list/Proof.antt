@@ -69,14 +69,14 @@ use Rattle.star_file.proofs.Plan as P
 use Rattle.star_file.proofs.Plan.Laws as P′
 use Rattle.rules.proofs.Listed as L
 use Rattle.rules.proofs.Listed.Laws as L′
-use Rattle.star_file.proofs.entries.read_plan as plan
-use Rattle.star_file.proofs.entries.read_plan.Symbol as plan-def
-use Rattle.star_file.proofs.entries.read_plan.Symbol.{name as #read-plan}
-use Rattle.star_file.proofs.entries.read_plan.Met as plan-thm
-use Rattle.star_file.proofs.entries.entry_at as entry
-use Rattle.star_file.proofs.entries.entry_at.Symbol as entry-def
-use Rattle.star_file.proofs.entries.entry_at.Symbol.{name as #entry-at}
-use Rattle.star_file.proofs.entries.entry_at.Met as entry-thm
+use Rattle.reading_plan.proofs.read_plan as plan
+use Rattle.reading_plan.proofs.read_plan.Symbol as plan-def
+use Rattle.reading_plan.proofs.read_plan.Symbol.{name as #read-plan}
+use Rattle.reading_plan.proofs.read_plan.Met as plan-thm
+use Rattle.reading_plan.proofs.entry_at as entry
+use Rattle.reading_plan.proofs.entry_at.Symbol as entry-def
+use Rattle.reading_plan.proofs.entry_at.Symbol.{name as #entry-at}
+use Rattle.reading_plan.proofs.entry_at.Met as entry-thm
 use Rattle.star_file.proofs.answer_of as answer
 use Rattle.star_file.proofs.answer_of.Symbol as answer-def
 use Rattle.star_file.proofs.answer_of.Symbol.{name as #answer-of}
@@ -612,8 +612,8 @@ read-list-spec 𝓤 H 𝓜 𝓖 𝓡 =
     (tables 𝓤 H 𝓜 𝓡 code.env .C) (tables 𝓤 H 𝓜 𝓡 code.env .Λ) #read-list code.function (code.unfolded 𝓤 H 𝓜 𝓡)
     (read-meets 𝓤 H (𝓖 .A) (givenOf 𝓤 H 𝓜 𝓖) (𝓜 .mem) (𝓡 .run) (tablesOf 𝓤 H 𝓜 (tables 𝓤 H 𝓜 𝓡 code.env))
     (cited 𝓤 H (PlanOf 𝓤 H (𝓖 .A) (𝓜 .mem) (𝓡 .run)) 𝓜 𝓡 code.env #read-plan plan-def.routine
-    code.calls-star-file·entries·read-plan (plan-thm.met 𝓤 H 𝓜 𝓖 𝓡))
+    code.calls-reading-plan·read-plan (plan-thm.met 𝓤 H 𝓜 𝓖 𝓡))
     (cited 𝓤 H (EntryAt 𝓤 H (𝓖 .A) (𝓜 .mem) (𝓡 .run)) 𝓜 𝓡 code.env #entry-at entry-def.routine
-    code.calls-star-file·entries·entry-at (entry-thm.met 𝓤 H 𝓜 𝓖 𝓡))
+    code.calls-reading-plan·entry-at (entry-thm.met 𝓤 H 𝓜 𝓖 𝓡))
     (cited 𝓤 H (Answer 𝓤 H (𝓖 .A) (𝓜 .mem) (𝓡 .run)) 𝓜 𝓡 code.env #answer-of answer-def.routine
     code.calls-star-file·answer-of (answer-thm.met 𝓤 H 𝓜 𝓖 𝓡)))

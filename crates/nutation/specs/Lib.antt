@@ -1,3 +1,0 @@
--- What the clauses of `nutation` cite.
-pub mod Terms
-pub mod TermFits

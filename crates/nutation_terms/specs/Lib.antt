@@ -1,0 +1,3 @@
+-- What the clauses of `nutation_terms` cite.
+pub mod Terms
+pub mod TermFits

@@ -1,0 +1,2 @@
+-- What the clauses of `octants` cite.
+pub mod Given

@@ -1,2 +1,0 @@
--- What the private functions ask of their numbers.
-pub mod Given
