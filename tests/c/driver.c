@@ -57,11 +57,11 @@ static int32_t narrow(int64_t word) {
     FUNCTION(turbelicus_list_star, 1, struct turbelicus_starred, call->read, call->read_length, (size_t)given[0])      \
     FUNCTION(turbelicus_list_write, 0, struct turbelicus_written, call->read, call->read_length / sizeof(int64_t),     \
              call->room, call->room_length)                                                                            \
-    FUNCTION(inner_list_read, 0, struct inner_listed, call->read, call->read_length, call->room,                       \
+    FUNCTION(inner_list_read, 0, struct turbelicus_counted, call->read, call->read_length, call->room,                 \
              call->room_length / sizeof(struct inner_entry))                                                           \
-    FUNCTION(inner_list_write, 0, struct inner_listed, call->read, call->read_length / sizeof(struct inner_entry),     \
-             call->room, call->room_length)                                                                            \
-    FUNCTION(inner_night_list, 10, struct inner_listed, narrow(given[0]), narrow(given[1]), narrow(given[2]),          \
+    FUNCTION(inner_list_write, 0, struct turbelicus_counted, call->read,                                               \
+             call->read_length / sizeof(struct inner_entry), call->room, call->room_length)                            \
+    FUNCTION(inner_night_list, 10, struct turbelicus_counted, narrow(given[0]), narrow(given[1]), narrow(given[2]),    \
              narrow(given[3]), narrow(given[4]), narrow(given[5]), narrow(given[6]), narrow(given[7]), given[8],       \
              given[9], call->room, call->room_length / sizeof(struct inner_entry))
 

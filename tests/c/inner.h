@@ -3,8 +3,7 @@
  * and the rest are noughts, or it is 0. */
 #ifndef INNER_H
 #define INNER_H
-#include <stddef.h>
-#include <stdint.h>
+#include "turbelicus.h"
 
 /* met is 1 and value the result where the function's conditions hold; else both are 0. */
 struct inner_tried {
@@ -82,17 +81,12 @@ struct inner_entry {
 };
 
 /* count is of the records read, of the bytes written, or of the entries marked 0. */
-struct inner_listed {
-    int64_t refused;
-    size_t count;
-};
-
-struct inner_listed inner_list_read(const uint8_t *file, size_t file_length, struct inner_entry *entries,
-                                    size_t entries_length);
-struct inner_listed inner_list_write(const struct inner_entry *entries, size_t entries_length, uint8_t *room,
-                                     size_t room_length);
-struct inner_listed inner_night_list(int32_t year, int32_t month, int32_t day, int32_t hour, int32_t minute,
-                                     int32_t second, int32_t ms, int32_t difference, int64_t latitude, int64_t longitude,
-                                     struct inner_entry *entries, size_t entries_length);
+struct turbelicus_counted inner_list_read(const uint8_t *file, size_t file_length, struct inner_entry *entries,
+                                          size_t entries_length);
+struct turbelicus_counted inner_list_write(const struct inner_entry *entries, size_t entries_length, uint8_t *room,
+                                           size_t room_length);
+struct turbelicus_counted inner_night_list(int32_t year, int32_t month, int32_t day, int32_t hour, int32_t minute,
+                                           int32_t second, int32_t ms, int32_t difference, int64_t latitude,
+                                           int64_t longitude, struct inner_entry *entries, size_t entries_length);
 
 #endif

@@ -6,7 +6,7 @@
 static const uint8_t file[] = {'S', 'L', 'T', 1,   0,   1,   0,   1,   0,   0,   0,   0,   0,   0,   0,   254,
                                255, 255, 255, 255, 255, 255, 255, 3,   0,   0,   0,   252, 255, 255, 255};
 
-static int is_listed(struct inner_listed listed, int64_t refused, size_t count) {
+static int is_listed(struct turbelicus_counted listed, int64_t refused, size_t count) {
     return listed.refused == refused && listed.count == count;
 }
 
@@ -21,7 +21,7 @@ static struct inner_entry entry_of(int64_t ra, int64_t declination) {
     return entry;
 }
 
-static struct inner_listed night(int32_t year, struct inner_entry *entries, size_t length) {
+static struct turbelicus_counted night(int32_t year, struct inner_entry *entries, size_t length) {
     return inner_night_list(year, 1, 1, 12, 0, 0, 0, 0, 0, 0, entries, length);
 }
 

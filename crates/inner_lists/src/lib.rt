@@ -1,11 +1,12 @@
-// Exports for the tests alone: the functions over lent entries, of the crates `star_list` and
-// `night_list`, which `module` does not show. It is not shipped.
+// Exports for the tests alone: the functions over lent entries, of the crates `star_list`,
+// `entries_writing` and `night_list`, which `module` does not show. It is not shipped.
 
+use answers::lists::TurbelicusCounted;
+use answers::lists::counted_out;
 use entries_writing::write_list;
 use night_list::night_list;
 use rules::Date;
 use rules::Entry;
-use rules::Listed;
 use rules::Moment;
 use rules::Site;
 use rules::Time;
@@ -15,33 +16,26 @@ ghost use Rattle.rules.specs.Refusals.{listedAnswer};
 ghost use Rattle.rules.specs.StarList.{listRead, entriesAfterRead, listWritten, roomAfterWrite};
 ghost use Rattle.rules.specs.NightList.{nightList, entriesAfterNight};
 ghost use Rattle.answers.specs.Given.{momentOf, siteOf};
-ghost use Rattle.inner_lists.specs.Lists.{innerListed};
-
-// The refusal's number and nought, or 0 and the count: of records, of bytes, of entries marked 0.
-#[repr(C)]
-pub struct InnerListed {
-    pub refused: i64,
-    pub count: usize,
-}
+ghost use Rattle.answers.specs.Answers.{countedOut};
 
 // A list file read into entries.
 #[no_mangle]
-pub extern "C" fn inner_list_read(file: &[u8], entries: &mut [Entry]) -> InnerListed
-    ensures { λ r. ⌜ (r ≡ innerListed (listedAnswer
+pub extern "C" fn inner_list_read(file: &[u8], entries: &mut [Entry]) -> TurbelicusCounted
+    ensures { λ r. ⌜ (r ≡ countedOut (listedAnswer
         (listRead (now (file .entry)) (now (entries .entry)))))
         × (now (entries .exit) ≡ entriesAfterRead (now (file .entry)) (now (entries .entry))) ⌝ }
 {
-    listed_out(read_list(file, entries))
+    counted_out(read_list(file, entries))
 }
 
 // The stars of entries written as a list file.
 #[no_mangle]
-pub extern "C" fn inner_list_write(entries: &[Entry], room: &mut [u8]) -> InnerListed
-    ensures { λ r. ⌜ (r ≡ innerListed (listedAnswer
+pub extern "C" fn inner_list_write(entries: &[Entry], room: &mut [u8]) -> TurbelicusCounted
+    ensures { λ r. ⌜ (r ≡ countedOut (listedAnswer
         (listWritten (now (entries .entry)) (now (room .entry)))))
         × (now (room .exit) ≡ roomAfterWrite (now (entries .entry)) (now (room .entry))) ⌝ }
 {
-    listed_out(write_list(entries, room))
+    counted_out(write_list(entries, room))
 }
 
 // A night list, worked where it stands.
@@ -58,8 +52,8 @@ pub extern "C" fn inner_night_list(
     latitude: i64,
     longitude: i64,
     entries: &mut [Entry],
-) -> InnerListed
-    ensures { λ r. ⌜ (r ≡ innerListed (listedAnswer (nightList
+) -> TurbelicusCounted
+    ensures { λ r. ⌜ (r ≡ countedOut (listedAnswer (nightList
         (momentOf year month day hour minute second ms difference)
         (siteOf latitude longitude) (now (entries .entry)))))
         × (now (entries .exit) ≡ entriesAfterNight
@@ -68,7 +62,7 @@ pub extern "C" fn inner_night_list(
 {
     let moment = moment_of(year, month, day, hour, minute, second, ms, difference);
     let site = site_of(latitude, longitude);
-    listed_out(night_list(moment, site, entries))
+    counted_out(night_list(moment, site, entries))
 }
 
 fn moment_of(
@@ -101,20 +95,5 @@ fn site_of(latitude: i64, longitude: i64) -> Site
     Site {
         latitude,
         longitude,
-    }
-}
-
-fn listed_out(a: Listed) -> InnerListed
-    ensures { λ r. ⌜ r ≡ innerListed (listedAnswer a) ⌝ }
-{
-    match a {
-        Listed::Count(count) => InnerListed {
-            refused: 0,
-            count: count,
-        },
-        Listed::Refused(r) => InnerListed {
-            refused: refusals::number(r),
-            count: 0,
-        },
     }
 }

@@ -1,15 +1,12 @@
 // The night list but for its walk: the checks before, an entry worked by its value, the answer.
 
 use night::night_of;
-use place::place_in;
 use rules::Entry;
 use rules::Listed;
 use rules::Moment;
-use rules::Place;
 use rules::Prepared;
 use rules::Refusal;
 use rules::Site;
-use stars::star_refused;
 ghost use mathlib.Core.Path.{_≡_};
 ghost use mathlib.Core.Bool.{cond};
 ghost use lib.Dec.{eqb};
@@ -56,25 +53,7 @@ pub fn worked(plan: Plan, entry: Entry) -> Entry
     let night = plan.night;
     match night {
         Prepared::Refused(_) => entry,
-        Prepared::For(night) => {
-            if star_refused(star) {
-                return Entry {
-                    star,
-                    mark: 5,
-                    place: Place {
-                        ra: 0,
-                        declination: 0,
-                        azimuth: 0,
-                        altitude: 0,
-                    },
-                };
-            }
-            Entry {
-                star,
-                mark: 0,
-                place: place_in(night, star),
-            }
-        }
+        Prepared::For(night) => entries::worked(night, star),
     }
 }
 

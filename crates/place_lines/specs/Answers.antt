@@ -1,24 +1,22 @@
 -- Our own program `places`, not document 01: what it answers. Definitions only.
 -- The file is checked first, by 9, 10, 5; then the form of the line, by 0; then date and site, by 1 to 4, 6.
 use Prim.Native.Nat.{ℕ}
-use mathlib.Core.Bool.{Bool, cond}
-use mathlib.Core.List.{List, _++_}
+use mathlib.Core.Bool.{Bool}
+use mathlib.Core.List.{List}
 use lib.IntN.{pos}
-use Rattle.rules.specs.declared.Place.{Place}
-use Rattle.rules.specs.declared.Entry.{Entry}
 use Rattle.rules.specs.declared.Night.{Night}
 use Rattle.rules.specs.declared.Prepared.{Prepared}
 use Rattle.rules.specs.declared.Listed.{Listed}
 use Rattle.rules.specs.declared.Starred.{Starred}
 use Rattle.rules.specs.Refusals.{number}
-use Rattle.rules.specs.Times.{decimal, refusedLine}
+use Rattle.rules.specs.Times.{refusedLine}
 use Rattle.rules.specs.Night.{nightOf}
 use Rattle.rules.specs.StarList.{freshEntry, listCount, listStar}
 use Rattle.rules.specs.NightList.{worked}
 use Rattle.asking.specs.declared.Asked.{Asked}
 use Rattle.place_lines.specs.declared.Begun.{Begun}
 use Rattle.asking.specs.Asking.{askedOf}
-use Rattle.sexagesimal.specs.Sexagesimal.{spaced, hours, bearing, elevation}
+use Rattle.entry_lines.specs.EntryLine.{entryLine}
 
 -- ---- a file and a line
 
@@ -39,24 +37,6 @@ unfoldable pub begun : List ℕ → List ℕ → Begun
 begun file line = begunOf (listCount file) (askedOf line)
 
 -- ---- a line of the answer
-
--- four angles in µas
-unfoldable pub plainAngles : Place → List ℕ
-plainAngles p =
-    spaced (decimal (p .ra)) ++ spaced (decimal (p .declination))
-    ++ spaced (decimal (p .azimuth)) ++ spaced (decimal (p .altitude))
-
--- four angles for people
-unfoldable pub peopleAngles : Place → List ℕ
-peopleAngles p =
-    spaced (hours (p .ra)) ++ spaced (elevation (p .declination))
-    ++ spaced (bearing (p .azimuth)) ++ spaced (elevation (p .altitude))
-
--- number, mark and four angles of an entry
-unfoldable pub entryLine : Bool → ℕ → Entry → List ℕ
-entryLine people index e =
-    decimal (pos index) ++ spaced (decimal (pos (e .mark)))
-    ++ cond people (peopleAngles (e .place)) (plainAngles (e .place))
 
 -- of a star in a night, worked as an entry of a list is
 unfoldable pub starLine : Bool → Night → ℕ → Starred → List ℕ

@@ -1,10 +1,10 @@
 // Lines of the program `places`, our own and not document 01's: a line read, and a line of the
 // answer printed.
 
-use crate::printing::put_entry;
-use crate::printing::worked;
 use asking::Asked;
 use asking::asked_of;
+use entries::worked;
+use entry_lines::put_entry;
 use lines::printing::put_refused;
 use rules::Listed;
 use rules::Night;
@@ -18,8 +18,6 @@ ghost use lib.ListN.{length};
 ghost use lib.Seq.{sets};
 ghost use Rattle.laws.specs.Night.{NightFits};
 ghost use Rattle.place_lines.specs.Answers as rule;
-
-mod printing;
 
 // What a file and a line come to: how many entries there are and their night, or the number of the
 // refusal, 0 for a line of another form.

@@ -35,6 +35,7 @@ pub mod StarWriting
 pub mod ReadingPlan
 pub mod StarList
 pub mod EntriesWriting
+pub mod Entries
 pub mod NightPlan
 pub mod NightList
 pub mod Decimals
@@ -43,6 +44,7 @@ pub mod Fields
 pub mod Lines
 pub mod Asking
 pub mod Sexagesimal
+pub mod EntryLines
 pub mod PlaceLines
 pub mod Answers
 pub mod Module

@@ -45,22 +45,22 @@ use Rattle.rules.specs.declared.Entry.{Entry}
 use Rattle.rules.specs.declared.Listed.{Listed}
 use Rattle.rules.specs.Refusals.{listedAnswer}
 use Rattle.rules.specs.StarList.{listRead, entriesAfterRead}
-use Rattle.inner_lists.specs.declared.InnerListed.{InnerListed}
-use Rattle.inner_lists.specs.Lists.{innerListed}
+use Rattle.answers.specs.declared.lists.TurbelicusCounted.{TurbelicusCounted}
+use Rattle.answers.specs.Answers.{countedOut}
 use Rattle.inner_lists.proofs.Answering.{LR, OR, Out, out-told, to-out, goes-out}
 use Rattle.rules.proofs.Entry as T
 use Rattle.rules.proofs.Listed as L
 use Rattle.rules.proofs.Listed.Laws as L′
-use Rattle.inner_lists.proofs.InnerListed as O
-use Rattle.inner_lists.proofs.InnerListed.Laws as O′
+use Rattle.answers.proofs.lists.TurbelicusCounted as O
+use Rattle.answers.proofs.lists.TurbelicusCounted.Laws as O′
 use Rattle.star_list.proofs.read_list as read
 use Rattle.star_list.proofs.read_list.Symbol as read-def
 use Rattle.star_list.proofs.read_list.Symbol.{name as #read-list}
 use Rattle.star_list.proofs.read_list.Met as read-thm
-use Rattle.inner_lists.proofs.listed_out as out
-use Rattle.inner_lists.proofs.listed_out.Symbol as out-def
-use Rattle.inner_lists.proofs.listed_out.Symbol.{name as #listed-out}
-use Rattle.inner_lists.proofs.listed_out.Met as out-thm
+use Rattle.answers.proofs.lists.counted_out as out
+use Rattle.answers.proofs.lists.counted_out.Symbol as out-def
+use Rattle.answers.proofs.lists.counted_out.Symbol.{name as #counted-out}
+use Rattle.answers.proofs.lists.counted_out.Met as out-thm
 use Rattle.inner_lists.proofs.inner_list_read.Key.{name as #inner-list-read}
 use Rattle.inner_lists.proofs.inner_list_read as inner
 use Rattle.inner_lists.proofs.inner_list_read.Statement as stated
@@ -142,7 +142,7 @@ module _ {M : Type 1} (𝓤 : URA M) (H : Heap 𝓤) (A : Atoms 𝓤) (W : Given
   goes-read : ent 𝓤 (⋆ 𝓤 H A (tokens ∷ slices ∷ [])) (Read 𝓤 H A mem run .pre to-read)
   goes-read = qed W (tokens ∷ slices ∷ []) ∵ join ! $ frame ! $ done !
 
-  exits : (t : InnerListed) (v : Val) (ws : List Entry) → t ≡ innerListed (listedAnswer (listRead bs xs))
+  exits : (t : TurbelicusCounted) (v : Val) (ws : List Entry) → t ≡ countedOut (listedAnswer (listRead bs xs))
       → ws ≡ entriesAfterRead bs xs → length ws ≡ length xs
       → ent 𝓤 (⋆ 𝓤 H A (tokens ∷ ‵ (finally R γ ws) ∷ ‵ (OR .own t (v ∷ [])) ∷ [])) (Post v)
   exits t v ws e f long =
@@ -152,7 +152,7 @@ module _ {M : Type 1} (𝓤 : URA M) (H : Heap 𝓤) (A : Atoms 𝓤) (W : Given
       nothing ! $ move ! (1 ∷ 0 ∷ []) $ fjoin ! $ nothing ! $ fjoin ! $ done !
 
   walk′ : (𝓣 : Tables 𝓤 H) (fm : FmC 𝓤 H (W .laws) (𝓣 .C)) → Triple 𝓤 (𝓣 .C #read-list) (Read 𝓤 H A mem run)
-      → Triple 𝓤 (𝓣 .C #listed-out) (Out 𝓤 H A mem run)
+      → Triple 𝓤 (𝓣 .C #counted-out) (Out 𝓤 H A mem run)
       → ent 𝓤 (onEntry 𝓤 H A inner.signature (κ, (κ′, tt)) (q, (q′, tt)) a vals)
       (WpFn 𝓤 H (𝓣 .C) (𝓣 .Λ) function′ (sf ∷ s ∷ []) Post)
   walk′ 𝓣 fm known-read known-out =
@@ -181,14 +181,14 @@ module _ {M : Type 1} (𝓤 : URA M) (H : Heap 𝓤) (A : Atoms 𝓤) (W : Given
       -- [the last list; true; the tokens and the answer; _5; …]
       move ! (2 ∷ []) $ split ! $ move ! (1 ∷ []) $ peeks ! LR (Is LR) (shows 𝓤 H A LR) r (w ∷ []) (λ is.
       land ! (from ! (stop !)) (init ! 8 refl (EL.lawful L.the-type L′.the-laws 𝓤 H A W tt .typed r _ is .0)) $
-      -- `listed_out`
+      -- `counted_out`
       use1 W (raw (Out 𝓤 H A mem run .pre (to-out 𝓤 H A mem run r w))) (goes-out 𝓤 H A mem run W r w) $
       calls-at ! fm (Out 𝓤 H A mem run) known-out (to-out 𝓤 H A mem run r w)
       (and-then ! (load ! (from ! (stop !)) (look ! 8 refl)) (no-more !)) (λ v.
-      use1 W (later (some (λ (t : InnerListed). (‵ ftrue ⊛ ‵ (OR .own t (v ∷ [])))
+      use1 W (later (some (λ (t : TurbelicusCounted). (‵ ftrue ⊛ ‵ (OR .own t (v ∷ [])))
       ⊛ raw (ensured 𝓤 H A out.ended (out.clauses 𝓤 H A mem run) tt (r, tt) tt t)))) (id⊢ 𝓤 _) $ await ! tt $
-      pick ! (λ t. split ! $ move ! (1 ∷ []) $ use1 W (raw (fact 𝓤 (t ≡ innerListed (listedAnswer r))))
-      (out-told 𝓤 H A mem run r t) $ heard ! (t ≡ innerListed (listedAnswer r)) (λ e₂. split ! $ drop ! $
+      pick ! (λ t. split ! $ move ! (1 ∷ []) $ use1 W (raw (fact 𝓤 (t ≡ countedOut (listedAnswer r))))
+      (out-told 𝓤 H A mem run r t) $ heard ! (t ≡ countedOut (listedAnswer r)) (λ e₂. split ! $ drop ! $
       peeks ! OR (Is OR) (shows 𝓤 H A OR) t (v ∷ []) (λ is₂.
       -- [the answer for C; the tokens; the last list; true; _5; …]
       land ! (from ! (stop !)) (init ! 14 refl (LL.lawful O.the-type O′.the-laws 𝓤 H A W .typed t _ is₂ .0)) $
@@ -197,10 +197,10 @@ module _ {M : Type 1} (𝓤 : URA M) (H : Heap 𝓤) (A : Atoms 𝓤) (W : Given
       move ! (14 ∷ 15 ∷ []) $ free1 ! $ move ! (12 ∷ 13 ∷ []) $ free1 ! $ move ! (10 ∷ 11 ∷ []) $ free1 ! $
       move ! (8 ∷ 9 ∷ []) $ free1 ! $ move ! (6 ∷ 7 ∷ []) $ free1 ! $ move ! (4 ∷ 5 ∷ []) $ free1 ! $ free0 ! $
       keep ! (1 ∷ 2 ∷ 0 ∷ []) $ by ! (exits t v (ws .1 .0)
-      (e₂ ∙ ap (λ (u : Listed). innerListed (listedAnswer u)) (e₁ .0)) (e₁ .1) long)))))))))))))))))
+      (e₂ ∙ ap (λ (u : Listed). countedOut (listedAnswer u)) (e₁ .0)) (e₁ .1) long)))))))))))))))))
 
   walk : (𝓣 : Tables 𝓤 H) (fm : FmC 𝓤 H (W .laws) (𝓣 .C)) → Triple 𝓤 (𝓣 .C #read-list) (Read 𝓤 H A mem run)
-      → Triple 𝓤 (𝓣 .C #listed-out) (Out 𝓤 H A mem run)
+      → Triple 𝓤 (𝓣 .C #counted-out) (Out 𝓤 H A mem run)
       → ent 𝓤 (onEntry 𝓤 H A inner.signature (κ, (κ′, tt)) (q, (q′, tt)) a vals)
       (WpFn 𝓤 H (𝓣 .C) (𝓣 .Λ) code.function (sf ∷ s ∷ []) Post)
   walk 𝓣 fm known-read known-out =
@@ -210,7 +210,7 @@ module _ {M : Type 1} (𝓤 : URA M) (H : Heap 𝓤) (A : Atoms 𝓤) (W : Given
 module _ {M : Type 1} (𝓤 : URA M) (H : Heap 𝓤) (A : Atoms 𝓤) (W : Given 𝓤 H A) (mem : Memory → SProp 𝓤)
     (run : Routine → Fun 𝓤) where
   inner-walks : (𝓣 : Tables 𝓤 H) → FmC 𝓤 H (W .laws) (𝓣 .C) → Triple 𝓤 (𝓣 .C #read-list) (Read 𝓤 H A mem run)
-      → Triple 𝓤 (𝓣 .C #listed-out) (Out 𝓤 H A mem run)
+      → Triple 𝓤 (𝓣 .C #counted-out) (Out 𝓤 H A mem run)
       → Walks 𝓤 H A inner.ended stayed (WpFn 𝓤 H (𝓣 .C) (𝓣 .Λ) code.function) (inner.clauses 𝓤 H A mem run)
   inner-walks 𝓣 fm known-read known-out = walked 𝓤 H A inner.ended stayed (inner.clauses 𝓤 H A mem run)
       (WpFn 𝓤 H (𝓣 .C) (𝓣 .Λ) code.function) (λ κs. (slice-vals, (slice-vals, tt)))
@@ -222,7 +222,7 @@ module _ {M : Type 1} (𝓤 : URA M) (H : Heap 𝓤) (A : Atoms 𝓤) (W : Given
 
 inner-meets : {M : Type 1} (𝓤 : URA M) (H : Heap 𝓤) (A : Atoms 𝓤) (W : Given 𝓤 H A) (mem : Memory → SProp 𝓤)
     (run : Routine → Fun 𝓤) (𝓣 : Tables 𝓤 H)
-    → Triple 𝓤 (𝓣 .C #read-list) (Read 𝓤 H A mem run) → Triple 𝓤 (𝓣 .C #listed-out) (Out 𝓤 H A mem run)
+    → Triple 𝓤 (𝓣 .C #read-list) (Read 𝓤 H A mem run) → Triple 𝓤 (𝓣 .C #counted-out) (Out 𝓤 H A mem run)
     → Meets 𝓤 H A inner.signature (WpFn 𝓤 H (𝓣 .C) (𝓣 .Λ) code.function) (inner.spec 𝓤 H A mem run)
 inner-meets 𝓤 H A W mem run 𝓣 known-read known-out =
     walk-meets 𝓤 H A inner.ended stayed W (
@@ -241,5 +241,5 @@ inner-list-read-spec 𝓤 H 𝓜 𝓖 𝓡 =
     (inner-meets 𝓤 H (𝓖 .A) (givenOf 𝓤 H 𝓜 𝓖) (𝓜 .mem) (𝓡 .run) (tablesOf 𝓤 H 𝓜 (tables 𝓤 H 𝓜 𝓡 code.env))
     (cited 𝓤 H (Read 𝓤 H (𝓖 .A) (𝓜 .mem) (𝓡 .run)) 𝓜 𝓡 code.env #read-list read-def.routine
     code.calls-star-list·read-list (read-thm.met 𝓤 H 𝓜 𝓖 𝓡))
-    (cited 𝓤 H (Out 𝓤 H (𝓖 .A) (𝓜 .mem) (𝓡 .run)) 𝓜 𝓡 code.env #listed-out out-def.routine
-    code.calls-inner-lists·listed-out (out-thm.met 𝓤 H 𝓜 𝓖 𝓡)))
+    (cited 𝓤 H (Out 𝓤 H (𝓖 .A) (𝓜 .mem) (𝓡 .run)) 𝓜 𝓡 code.env #counted-out out-def.routine
+    code.calls-answers·lists·counted-out (out-thm.met 𝓤 H 𝓜 𝓖 𝓡)))

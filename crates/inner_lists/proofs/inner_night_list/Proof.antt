@@ -49,9 +49,9 @@ use Rattle.rules.specs.Refusals.{listedAnswer}
 use Rattle.rules.specs.declared.Moment.{Moment}
 use Rattle.rules.specs.declared.Site.{Site}
 use Rattle.rules.specs.NightList.{nightList, entriesAfterNight}
-use Rattle.inner_lists.specs.declared.InnerListed.{InnerListed}
+use Rattle.answers.specs.declared.lists.TurbelicusCounted.{TurbelicusCounted}
 use Rattle.answers.specs.Given.{momentOf, siteOf}
-use Rattle.inner_lists.specs.Lists.{innerListed}
+use Rattle.answers.specs.Answers.{countedOut}
 use Rattle.inner_lists.proofs.Answering.{LR, OR, Out, out-told, to-out, goes-out}
 use Rattle.rules.proofs.Entry as T
 use Rattle.rules.proofs.Moment as Mo
@@ -60,8 +60,8 @@ use Rattle.rules.proofs.Site as S
 use Rattle.rules.proofs.Site.Laws as S′
 use Rattle.rules.proofs.Listed as L
 use Rattle.rules.proofs.Listed.Laws as L′
-use Rattle.inner_lists.proofs.InnerListed as O
-use Rattle.inner_lists.proofs.InnerListed.Laws as O′
+use Rattle.answers.proofs.lists.TurbelicusCounted as O
+use Rattle.answers.proofs.lists.TurbelicusCounted.Laws as O′
 use Rattle.night_list.proofs.night_list as night
 use Rattle.night_list.proofs.night_list.Symbol as night-def
 use Rattle.night_list.proofs.night_list.Symbol.{name as #night-list}
@@ -74,10 +74,10 @@ use Rattle.inner_lists.proofs.site_of as site′
 use Rattle.inner_lists.proofs.site_of.Symbol as site′-def
 use Rattle.inner_lists.proofs.site_of.Symbol.{name as #site-of}
 use Rattle.inner_lists.proofs.site_of.Met as site′-thm
-use Rattle.inner_lists.proofs.listed_out as out
-use Rattle.inner_lists.proofs.listed_out.Symbol as out-def
-use Rattle.inner_lists.proofs.listed_out.Symbol.{name as #listed-out}
-use Rattle.inner_lists.proofs.listed_out.Met as out-thm
+use Rattle.answers.proofs.lists.counted_out as out
+use Rattle.answers.proofs.lists.counted_out.Symbol as out-def
+use Rattle.answers.proofs.lists.counted_out.Symbol.{name as #counted-out}
+use Rattle.answers.proofs.lists.counted_out.Met as out-thm
 use Rattle.inner_lists.proofs.inner_night_list.Key.{name as #inner-night-list}
 use Rattle.inner_lists.proofs.inner_night_list as inner
 use Rattle.inner_lists.proofs.inner_night_list.Statement as stated
@@ -313,9 +313,9 @@ module _ {M : Type 1} (𝓤 : URA M) (H : Heap 𝓤) (A : Atoms 𝓤) (W : Given
       → ent 𝓤 (⋆ 𝓤 H A (tokens ∷ given m v p u ∷ [])) (Night 𝓤 H A mem run .pre (to-night m v p u))
   goes-night m v p u = qed W (tokens ∷ given m v p u ∷ []) ∵ join ! $ frame ! $ done !
 
-  exits : (m : Moment) (p : Site) (t : InnerListed) (v : Val) (ws : List Entry)
+  exits : (m : Moment) (p : Site) (t : TurbelicusCounted) (v : Val) (ws : List Entry)
       → m ≡ moment-in numbers → p ≡ siteOf latitude longitude
-      → t ≡ innerListed (listedAnswer (nightList m p xs)) → ws ≡ entriesAfterNight m p xs → length ws ≡ length xs
+      → t ≡ countedOut (listedAnswer (nightList m p xs)) → ws ≡ entriesAfterNight m p xs → length ws ≡ length xs
       → ent 𝓤 (⋆ 𝓤 H A (tokens ∷ ‵ (finally R γ ws) ∷ ‵ (OR .own t (v ∷ [])) ∷ [])) (Post v)
   exits m p t v ws is-moment is-site e f long =
       qed W (tokens ∷ ‵ (finally R γ ws) ∷ ‵ (OR .own t (v ∷ [])) ∷ []) ∵
@@ -323,7 +323,7 @@ module _ {M : Type 1} (𝓤 : URA M) (H : Heap 𝓤) (A : Atoms 𝓤) (W : Given
       (((κ, tt), (q, tt), tt, a, vals), tt) v t (tt, (tt, (tt, (tt, (tt, (tt, (tt, (tt, (tt, (tt, (ws, tt)))))))))))
       (tt, (tt, (tt, (tt, (tt, (tt, (tt, (tt, (tt, (tt, (long, tt)))))))))))) $
       says ! (
-        e ∙ (λ i. innerListed (listedAnswer (nightList (is-moment i) (is-site i) xs))),
+        e ∙ (λ i. countedOut (listedAnswer (nightList (is-moment i) (is-site i) xs))),
         f ∙ (λ i. entriesAfterNight (is-moment i) (is-site i) xs),
       ) $ frame ! $
       nothing ! $ move ! (1 ∷ 0 ∷ []) $ fjoin ! $ nothing ! $ fjoin ! $ nothing ! $ fjoin ! $ nothing ! $ fjoin ! $
@@ -332,7 +332,7 @@ module _ {M : Type 1} (𝓤 : URA M) (H : Heap 𝓤) (A : Atoms 𝓤) (W : Given
 
   walk′ : (𝓣 : Tables 𝓤 H) (fm : FmC 𝓤 H (W .laws) (𝓣 .C)) → Triple 𝓤 (𝓣 .C #moment-of) (MomentOf 𝓤 H A mem run)
       → Triple 𝓤 (𝓣 .C #site-of) (SiteOf 𝓤 H A mem run) → Triple 𝓤 (𝓣 .C #night-list) (Night 𝓤 H A mem run)
-      → Triple 𝓤 (𝓣 .C #listed-out) (Out 𝓤 H A mem run)
+      → Triple 𝓤 (𝓣 .C #counted-out) (Out 𝓤 H A mem run)
       → ent 𝓤 (onEntry 𝓤 H A inner.signature (κ, tt) (q, tt) a vals)
       (WpFn 𝓤 H (𝓣 .C) (𝓣 .Λ) function′ machine Post)
   walk′ 𝓣 fm known-moment known-site known-night known-out =
@@ -408,14 +408,14 @@ module _ {M : Type 1} (𝓤 : URA M) (H : Heap 𝓤) (A : Atoms 𝓤) (W : Given
       -- [the last list; true; the tokens and the answer; _16; …]
       move ! (2 ∷ []) $ split ! $ move ! (1 ∷ []) $ peeks ! LR (Is LR) (shows 𝓤 H A LR) r (w ∷ []) (λ is.
       land ! (from ! (stop !)) (init ! 8 refl (EL.lawful L.the-type L′.the-laws 𝓤 H A W tt .typed r _ is .0)) $
-      -- `listed_out`
+      -- `counted_out`
       use1 W (raw (Out 𝓤 H A mem run .pre (to-out 𝓤 H A mem run r w))) (goes-out 𝓤 H A mem run W r w) $
       calls-at ! fm (Out 𝓤 H A mem run) known-out (to-out 𝓤 H A mem run r w)
       (and-then ! (load ! (from ! (stop !)) (look ! 8 refl)) (no-more !)) (λ z.
-      use1 W (later (some (λ (t : InnerListed). (‵ ftrue ⊛ ‵ (OR .own t (z ∷ [])))
+      use1 W (later (some (λ (t : TurbelicusCounted). (‵ ftrue ⊛ ‵ (OR .own t (z ∷ [])))
       ⊛ raw (ensured 𝓤 H A out.ended (out.clauses 𝓤 H A mem run) tt (r, tt) tt t)))) (id⊢ 𝓤 _) $ await ! tt $
-      pick ! (λ t. split ! $ move ! (1 ∷ []) $ use1 W (raw (fact 𝓤 (t ≡ innerListed (listedAnswer r))))
-      (out-told 𝓤 H A mem run r t) $ heard ! (t ≡ innerListed (listedAnswer r)) (λ e₂. split ! $ drop ! $
+      pick ! (λ t. split ! $ move ! (1 ∷ []) $ use1 W (raw (fact 𝓤 (t ≡ countedOut (listedAnswer r))))
+      (out-told 𝓤 H A mem run r t) $ heard ! (t ≡ countedOut (listedAnswer r)) (λ e₂. split ! $ drop ! $
       peeks ! OR (Is OR) (shows 𝓤 H A OR) t (z ∷ []) (λ is₂.
       -- [the answer for C; the tokens; the last list; true; _16; …]
       land ! (from ! (stop !)) (init ! 36 refl (LL.lawful O.the-type O′.the-laws 𝓤 H A W .typed t _ is₂ .0)) $
@@ -430,11 +430,11 @@ module _ {M : Type 1} (𝓤 : URA M) (H : Heap 𝓤) (A : Atoms 𝓤) (W : Given
       move ! (12 ∷ 13 ∷ []) $ free1 ! $ move ! (10 ∷ 11 ∷ []) $ free1 ! $ move ! (8 ∷ 9 ∷ []) $ free1 ! $
       move ! (6 ∷ 7 ∷ []) $ free1 ! $ move ! (4 ∷ 5 ∷ []) $ free1 ! $ free0 ! $
       keep ! (1 ∷ 2 ∷ 0 ∷ []) $ by ! (exits m p t z (ws .1 .1 .0) is-moment is-site
-      (e₂ ∙ ap (λ (g : Listed). innerListed (listedAnswer g)) (e₁ .0)) (e₁ .1) long))))))))))))))))))))))))))))))))))))
+      (e₂ ∙ ap (λ (g : Listed). countedOut (listedAnswer g)) (e₁ .0)) (e₁ .1) long))))))))))))))))))))))))))))))))))))
 
   walk : (𝓣 : Tables 𝓤 H) (fm : FmC 𝓤 H (W .laws) (𝓣 .C)) → Triple 𝓤 (𝓣 .C #moment-of) (MomentOf 𝓤 H A mem run)
       → Triple 𝓤 (𝓣 .C #site-of) (SiteOf 𝓤 H A mem run) → Triple 𝓤 (𝓣 .C #night-list) (Night 𝓤 H A mem run)
-      → Triple 𝓤 (𝓣 .C #listed-out) (Out 𝓤 H A mem run)
+      → Triple 𝓤 (𝓣 .C #counted-out) (Out 𝓤 H A mem run)
       → ent 𝓤 (onEntry 𝓤 H A inner.signature (κ, tt) (q, tt) a vals)
       (WpFn 𝓤 H (𝓣 .C) (𝓣 .Λ) code.function machine Post)
   walk 𝓣 fm known-moment known-site known-night known-out =
@@ -445,7 +445,7 @@ module _ {M : Type 1} (𝓤 : URA M) (H : Heap 𝓤) (A : Atoms 𝓤) (W : Given
     (run : Routine → Fun 𝓤) where
   inner-walks : (𝓣 : Tables 𝓤 H) → FmC 𝓤 H (W .laws) (𝓣 .C) → Triple 𝓤 (𝓣 .C #moment-of) (MomentOf 𝓤 H A mem run)
       → Triple 𝓤 (𝓣 .C #site-of) (SiteOf 𝓤 H A mem run) → Triple 𝓤 (𝓣 .C #night-list) (Night 𝓤 H A mem run)
-      → Triple 𝓤 (𝓣 .C #listed-out) (Out 𝓤 H A mem run)
+      → Triple 𝓤 (𝓣 .C #counted-out) (Out 𝓤 H A mem run)
       → Walks 𝓤 H A inner.ended stayed (WpFn 𝓤 H (𝓣 .C) (𝓣 .Λ) code.function) (inner.clauses 𝓤 H A mem run)
   inner-walks 𝓣 fm known-moment known-site known-night known-out =
       walked 𝓤 H A inner.ended stayed (inner.clauses 𝓤 H A mem run)
@@ -529,7 +529,7 @@ module _ {M : Type 1} (𝓤 : URA M) (H : Heap 𝓤) (A : Atoms 𝓤) (W : Given
 inner-meets : {M : Type 1} (𝓤 : URA M) (H : Heap 𝓤) (A : Atoms 𝓤) (W : Given 𝓤 H A) (mem : Memory → SProp 𝓤)
     (run : Routine → Fun 𝓤) (𝓣 : Tables 𝓤 H) → Triple 𝓤 (𝓣 .C #moment-of) (MomentOf 𝓤 H A mem run)
     → Triple 𝓤 (𝓣 .C #site-of) (SiteOf 𝓤 H A mem run) → Triple 𝓤 (𝓣 .C #night-list) (Night 𝓤 H A mem run)
-    → Triple 𝓤 (𝓣 .C #listed-out) (Out 𝓤 H A mem run)
+    → Triple 𝓤 (𝓣 .C #counted-out) (Out 𝓤 H A mem run)
     → Meets 𝓤 H A inner.signature (WpFn 𝓤 H (𝓣 .C) (𝓣 .Λ) code.function) (inner.spec 𝓤 H A mem run)
 inner-meets 𝓤 H A W mem run 𝓣 known-moment known-site known-night known-out =
     let narrow-goes : Goes 𝓤 H A W 1 (plain (λ _. i32)) yes narrow = goes-dropped 𝓤 H A W 1 (plain (λ _. i32)) yes
@@ -587,5 +587,5 @@ inner-night-list-spec 𝓤 H 𝓜 𝓖 𝓡 =
     code.calls-inner-lists·site-of (site′-thm.met 𝓤 H 𝓜 𝓖 𝓡))
     (cited 𝓤 H (Night 𝓤 H (𝓖 .A) (𝓜 .mem) (𝓡 .run)) 𝓜 𝓡 code.env #night-list night-def.routine
     code.calls-night-list·night-list (night-thm.met 𝓤 H 𝓜 𝓖 𝓡))
-    (cited 𝓤 H (Out 𝓤 H (𝓖 .A) (𝓜 .mem) (𝓡 .run)) 𝓜 𝓡 code.env #listed-out out-def.routine
-    code.calls-inner-lists·listed-out (out-thm.met 𝓤 H 𝓜 𝓖 𝓡)))
+    (cited 𝓤 H (Out 𝓤 H (𝓖 .A) (𝓜 .mem) (𝓡 .run)) 𝓜 𝓡 code.env #counted-out out-def.routine
+    code.calls-answers·lists·counted-out (out-thm.met 𝓤 H 𝓜 𝓖 𝓡)))

@@ -13,7 +13,8 @@ use Rattle.rules.specs.Refusals.{number}
 use Rattle.rules.specs.Times.{decimal}
 use Rattle.rules.specs.StarList.{listStar}
 use Rattle.laws.specs.Times.{refusedText, refused-line-is}
-use Rattle.place_lines.specs.Answers.{entryLine, starLine, answerLine}
+use Rattle.entry_lines.specs.EntryLine.{entryLine}
+use Rattle.place_lines.specs.Answers.{starLine, answerLine}
 use Rattle.place_lines.specs.Entries.{star-index-le}
 use Rattle.place_lines.proofs.print_entry.Statement.{statement}
 use Rattle.place_lines.proofs.print_entry.Tie as tie

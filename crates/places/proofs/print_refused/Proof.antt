@@ -13,7 +13,7 @@ use borrow.Author.Needs.{needs}
 use Rattle.words.specs.Fits.{size64}
 use Rattle.rules.specs.Times.{decimal}
 use Rattle.laws.specs.Times.{refusedText}
-use Rattle.place_lines.specs.Lengths.{number-le}
+use Rattle.entry_lines.specs.Lengths.{number-le}
 use Rattle.places.proofs.print_refused.Statement.{statement}
 use Rattle.places.proofs.print_refused.Tie as tie
 

@@ -1,49 +1,19 @@
-// A line of the answer, put at the front of lent memory.
+// The line of an entry, of our own program `places`, put at the front of lent memory.
 
 use decimals::put;
 use rules::Entry;
-use rules::Night;
 use rules::Place;
-use rules::Star;
 use sexagesimal::put_bearing;
 use sexagesimal::put_elevation;
 use sexagesimal::put_hours;
-use stars::star_refused;
 ghost use mathlib.Core.Path.{_≡_};
 ghost use Prim.Native.Nat.{ℕ, _≤_, _+_};
 ghost use lib.IntN.{ℤ};
 ghost use lib.ListN.{length};
 ghost use lib.Seq.{sets};
 ghost use Rattle.rules.specs.Times.{decimal};
-ghost use Rattle.rules.specs.StarList.{freshEntry};
-ghost use Rattle.rules.specs.NightList as nights;
-ghost use Rattle.laws.specs.Night.{NightFits};
-ghost use Rattle.place_lines.specs.Answers as rule;
+ghost use Rattle.entry_lines.specs.EntryLine as rule;
 ghost use Rattle.sexagesimal.specs.Sexagesimal.{spaced};
-
-// A star of a night as an entry.
-pub fn worked(night: Night, star: Star) -> Entry
-    requires { ⌜ NightFits night ⌝ }
-    ensures { λ r. ⌜ r ≡ nights.worked night (freshEntry star) ⌝ }
-{
-    if star_refused(star) {
-        return Entry {
-            star: star,
-            mark: 5,
-            place: Place {
-                ra: 0,
-                declination: 0,
-                azimuth: 0,
-                altitude: 0,
-            },
-        };
-    }
-    Entry {
-        star: star,
-        mark: 0,
-        place: place::place_in(night, star),
-    }
-}
 
 // A space and a number.
 pub fn put_spaced(n: i64, at: usize, out: &mut [u8]) -> usize

@@ -1,4 +1,4 @@
--- `place_lines::printing::worked` meets its contract.
+-- `entries::worked` meets its contract.
 use mathlib.Core.Path.{_≡_, sym, ap, _∙_}
 use mathlib.Core.Bool.{false}
 use borrow.Author.Needs.{needs}
@@ -8,8 +8,8 @@ use Rattle.rules.specs.declared.Entry.{Entry}
 use Rattle.rules.specs.Place.{starRefused}
 use Rattle.rules.specs.StarList.{freshEntry}
 use Rattle.rules.specs.NightList as nights
-use Rattle.place_lines.proofs.printing.worked.Statement.{statement}
-use Rattle.place_lines.proofs.printing.worked.Tie as tie
+use Rattle.entries.proofs.worked.Statement.{statement}
+use Rattle.entries.proofs.worked.Tie as tie
 
 star-refused-requires : tie.Need-star-refused-requires
 star-refused-requires c κs = search needs

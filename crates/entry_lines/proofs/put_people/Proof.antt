@@ -1,4 +1,4 @@
--- `place_lines::printing::put_people` meets its contract: each angle is put after the one before.
+-- `entry_lines::put_people` meets its contract: each angle is put after the one before.
 use mathlib.Core.Path.{_≡_}
 use mathlib.Core.List.{List, _++_}
 use Prim.Native.Nat.{ℕ, _+_, _≤_}
@@ -10,13 +10,13 @@ use mir.Val.{SFits}
 use mir.Facts.{toZ-ofZ}
 use borrow.Author.Needs.{needs, sfits-of}
 use Rattle.rules.specs.declared.Place.{Place}
-use Rattle.place_lines.specs.Answers.{peopleAngles}
+use Rattle.entry_lines.specs.EntryLine.{peopleAngles}
 use Rattle.sexagesimal.specs.Sexagesimal.{spaced}
 use Rattle.sexagesimal.specs.Rows.{Put, none-put, more, put-length}
 use Rattle.sexagesimal.specs.Widths.{hours-length, bearing-length, elevation-length}
 use Rattle.sexagesimal.specs.Sexagesimal.{hours, bearing, elevation}
-use Rattle.place_lines.proofs.printing.put_people.Statement.{statement}
-use Rattle.place_lines.proofs.printing.put_people.Tie as tie
+use Rattle.entry_lines.proofs.put_people.Statement.{statement}
+use Rattle.entry_lines.proofs.put_people.Tie as tie
 
 abbrev hour : ℤ → List ℕ
 hour z = spaced (hours z)

@@ -1,4 +1,4 @@
--- `place_lines::printing::put_spaced` meets its contract.
+-- `entry_lines::put_spaced` meets its contract.
 use mathlib.Core.Path.{_≡_, ap, _∙_}
 use Prim.Native.Nat.{_+_}
 use native.Mathlib.Numerals.{add-one}
@@ -9,8 +9,8 @@ use mir.Facts.{toZ-ofZ}
 use borrow.Author.Needs.{needs}
 use Rattle.rules.specs.Times.{decimal}
 use Rattle.sexagesimal.specs.Sexagesimal.{spaced}
-use Rattle.place_lines.proofs.printing.put_spaced.Statement.{statement}
-use Rattle.place_lines.proofs.printing.put_spaced.Tie as tie
+use Rattle.entry_lines.proofs.put_spaced.Statement.{statement}
+use Rattle.entry_lines.proofs.put_spaced.Tie as tie
 
 slice-write-out : tie.Need-slice-write-out
 slice-write-out c = search needs

@@ -1,4 +1,4 @@
--- `place_lines::printing::put_entry` meets its contract.
+-- `entry_lines::put_entry` meets its contract.
 use mathlib.Core.Path.{_≡_}
 use mathlib.Core.Bool.{true, false}
 use mathlib.Core.List.{List, _++_}
@@ -11,12 +11,12 @@ use mir.Val.{toZ}
 use borrow.Author.Needs.{needs}
 use Rattle.words.specs.Holds.{nat}
 use Rattle.rules.specs.Times.{decimal}
-use Rattle.place_lines.specs.Answers.{plainAngles, peopleAngles, entryLine}
+use Rattle.entry_lines.specs.EntryLine.{plainAngles, peopleAngles, entryLine}
 use Rattle.sexagesimal.specs.Sexagesimal.{spaced}
 use Rattle.sexagesimal.specs.Rows.{Put, none-put, more, put-length}
-use Rattle.place_lines.specs.Lengths.{number-le}
-use Rattle.place_lines.proofs.printing.put_entry.Statement.{statement}
-use Rattle.place_lines.proofs.printing.put_entry.Tie as tie
+use Rattle.entry_lines.specs.Lengths.{number-le}
+use Rattle.entry_lines.proofs.put_entry.Statement.{statement}
+use Rattle.entry_lines.proofs.put_entry.Tie as tie
 
 cast-put : tie.Need-cast-put
 cast-put c = search needs

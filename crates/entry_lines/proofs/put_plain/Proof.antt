@@ -1,4 +1,4 @@
--- `place_lines::printing::put_plain` meets its contract: each angle is put after the one before.
+-- `entry_lines::put_plain` meets its contract: each angle is put after the one before.
 use mathlib.Core.Path.{_≡_}
 use mathlib.Core.List.{List, _++_}
 use Prim.Native.Nat.{ℕ, _+_, _≤_}
@@ -12,12 +12,12 @@ use borrow.Author.Needs.{needs, sfits-of}
 use Rattle.words.specs.Fits.{size64}
 use Rattle.rules.specs.declared.Place.{Place}
 use Rattle.rules.specs.Times.{decimal}
-use Rattle.place_lines.specs.Answers.{plainAngles}
+use Rattle.entry_lines.specs.EntryLine.{plainAngles}
 use Rattle.sexagesimal.specs.Sexagesimal.{spaced}
 use Rattle.sexagesimal.specs.Rows.{Put, none-put, more, put-length}
-use Rattle.place_lines.specs.Lengths.{number-le}
-use Rattle.place_lines.proofs.printing.put_plain.Statement.{statement}
-use Rattle.place_lines.proofs.printing.put_plain.Tie as tie
+use Rattle.entry_lines.specs.Lengths.{number-le}
+use Rattle.entry_lines.proofs.put_plain.Statement.{statement}
+use Rattle.entry_lines.proofs.put_plain.Tie as tie
 
 row-le : (z : ℤ) → SFits w64 z → length (spaced (decimal z)) ≤ 21
 row-le z h = omega (arith, number-le z (size64 z h))

@@ -1,2 +1,0 @@
--- What the exports over lent entries are given and answer.
-pub mod Lists
