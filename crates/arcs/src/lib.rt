@@ -2,9 +2,9 @@
 // 2^30, and in µas.
 
 use series::rows;
-use series::units::HALF;
-use series::units::HALF_IN_PARTS;
-use series::units::UNIT;
+use units::HALF;
+use units::HALF_IN_PARTS;
+use units::UNIT;
 ghost use mathlib.Core.Path.{_≡_};
 ghost use lib.IntN.{ℤ, pos, natAbs};
 ghost use Rattle.rules.specs.Units.{unit};

@@ -2,7 +2,7 @@
 // of 2^30.
 
 use rules::Pair;
-use series::units::QUARTER;
+use units::QUARTER;
 ghost use mathlib.Core.Path.{_≡_};
 ghost use lib.IntN.{ℤ};
 ghost use Rattle.rules.specs.Circle as circle;

@@ -2,8 +2,8 @@
 
 use rules::Pair;
 use series::parts;
-use series::units::HALF_QUARTER;
-use series::units::QUARTER;
+use units::HALF_QUARTER;
+use units::QUARTER;
 ghost use mathlib.Core.Path.{_≡_};
 ghost use Prim.Native.Nat.{ℕ};
 ghost use lib.IntN.{ℤ, natAbs};

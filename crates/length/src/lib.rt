@@ -3,6 +3,7 @@
 use rules::Direction;
 use rules::Refusal;
 use rules::Turned;
+use units::UNIT;
 ghost use mathlib.Core.Path.{_≡_};
 ghost use mathlib.Core.Bool.{not};
 ghost use Prim.Native.Nat.{_<_, _^_};
@@ -10,9 +11,6 @@ ghost use lib.IntN.{pos, natAbs};
 ghost use Rattle.rules.specs.Length.{squares, partTo, root, toLength, broughtToLength};
 ghost use Rattle.rules.specs.Turning.{directionRefused};
 ghost use Rattle.length.specs.Given.{PartFits, HasLength, NotNought};
-
-// 2^30: the length of a direction.
-const UNIT: i64 = 1073741824;
 
 // No part of an accepted direction is larger: the square of 2^30 + 2 is above 2^60 + 2^32.
 const REACH: i64 = 1073741825;

@@ -12,16 +12,13 @@ use rules::Refusal;
 use rules::Site;
 use rules::Tt;
 use rules::Ut;
+use units::HALF;
+use units::QUARTER;
 ghost use mathlib.Core.Path.{_≡_};
 ghost use Rattle.rules.specs.declared.Instants.{Instants};
 ghost use Rattle.rules.specs.Night as rule;
 ghost use Rattle.laws.specs.Instant.{InRange};
 ghost use Rattle.night.specs.Given.{SiteFits};
-
-// A quarter of C and half of it, in µas.
-const QUARTER: i64 = 324000000000;
-
-const HALF: i64 = 648000000000;
 
 // All that a moment and a site decide, for any number of stars.
 //

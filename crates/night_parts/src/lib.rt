@@ -3,6 +3,9 @@
 use rules::Direction;
 use rules::Pair;
 use rules::Ut;
+use units::CIRCLE;
+use units::QUARTER;
+use units::UNIT;
 ghost use mathlib.Core.Path.{_≡_};
 ghost use Prim.Native.Nat.{_≤_, _^_};
 ghost use lib.IntN.{ℤ, pos, negℤ, natAbs, _+ℤ_, _-ℤ_, _*ℤ_};
@@ -14,14 +17,6 @@ ghost use Rattle.rules.specs.Night as rule;
 ghost use Rattle.laws.specs.Angles.{Sized};
 ghost use Rattle.night_parts.specs.Given.{ScaledFits, LocalFits};
 ghost use Rattle.night_parts.specs.Parts.{opposite};
-
-// C and a quarter of it, in µas.
-const CIRCLE: i64 = 1296000000000;
-
-const QUARTER: i64 = 324000000000;
-
-// 1 in a cosine or a sine.
-const UNIT: i64 = 1073741824;
 
 // The constant of aberration, in parts of 2^30.
 const ABERRATION: i64 = 106692;

@@ -12,15 +12,13 @@ use rules::Nutation;
 use rules::Refusal;
 use rules::Term;
 use rules::Tt;
+use units::UNIT;
 ghost use mathlib.Core.Path.{_≡_};
 ghost use Rattle.rules.specs.Polynomials as rule;
 ghost use Rattle.rules.specs.Nutation.{termAngle, nutation, nutationAt};
 ghost use Rattle.laws.specs.Instant.{InRange};
 ghost use Rattle.nutation_terms.specs.Terms.{productsOf};
 ghost use Rattle.nutation_terms.specs.TermFits.{ArgumentsFit, TermFits};
-
-// 1 in a cosine or a sine.
-const UNIT: i64 = 1073741824;
 
 // Nutation in longitude and in obliquity.
 //

@@ -1,10 +1,10 @@
 // The angle of a reading: in the first octant, in the first quarter, by the signs, and as a height.
 
-use series::units::CIRCLE;
-use series::units::HALF;
-use series::units::HALF_QUARTER;
-use series::units::QUARTER;
-use series::units::UNIT;
+use units::CIRCLE;
+use units::HALF;
+use units::HALF_QUARTER;
+use units::QUARTER;
+use units::UNIT;
 ghost use mathlib.Core.Path.{_≡_};
 ghost use lib.IntN.{ℤ, natAbs};
 ghost use Rattle.rules.specs.Units.{quarter};

@@ -3,14 +3,12 @@
 
 use rounding::rnd_product_quotient;
 use rounding::rnd_quotient;
+use units::CENTURY;
 ghost use mathlib.Core.Path.{_≡_};
 ghost use mathlib.Core.List.{[], _∷_};
 ghost use lib.IntN.{ℤ};
 ghost use Rattle.rules.specs.Polynomials.{instantRefused, step, polynomial};
 ghost use Rattle.polynomials.specs.Fits.{StepFits, PolynomialFits};
-
-// Q: a Julian century, in ms.
-const CENTURY: i64 = 3155760000000;
 
 // One step where t * p may pass the word: times t, Rnd by Q, the next coefficient.
 fn step(t: i64, p: i64, next: i64) -> i64

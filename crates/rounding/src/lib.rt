@@ -22,9 +22,8 @@ const HALF_UNIT: i64 = 536870912;
 // Returned: Rnd(a / b), no larger in size than a.
 // Rule: 01, "Numbers, angles, instants".
 //
-// Both operators go toward zero and keep the sign of a, so there is no case on signs; 2 * (a % b) /
-// b
-// is 1, 0 or -1. The text-book (2 * a + b) / (2 * b) would pass the word from a = 2^62 up.
+// Both operators go toward zero and keep the sign of a, so there is no case on signs; the second
+// quotient is 1, 0 or -1. The text-book (2 * a + b) / (2 * b) would pass the word from a = 2^62 up.
 pub fn rnd_quotient(a: i64, b: i64) -> i64
     requires { ⌜ pos 0 <ℤ b ⌝ }
     requires { ⌜ natAbs b ≤ 2 ^ 62 ⌝ }

@@ -2,9 +2,9 @@
 // All but the angle is in parts of 2^30.
 
 use crate::rows;
-use crate::units::HALF;
-use crate::units::HALF_IN_PARTS;
 use rules::Pair;
+use units::HALF;
+use units::HALF_IN_PARTS;
 ghost use mathlib.Core.Path.{_≡_};
 ghost use Prim.Native.Nat.{ℕ};
 ghost use lib.IntN.{ℤ};

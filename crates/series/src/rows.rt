@@ -1,6 +1,6 @@
 // The two rows of document 01, "Sine and cosine", worked stage by stage. All is in parts of 2^30.
 
-use crate::units::UNIT;
+use units::UNIT;
 ghost use mathlib.Core.Path.{_≡_};
 ghost use Prim.Native.Nat.{ℕ, _≤_};
 ghost use lib.IntN.{ℤ, pos, natAbs};

@@ -5,19 +5,16 @@ use polynomials::refused_instant;
 use rules::Angle;
 use rules::Refusal;
 use rules::Ut;
+use units::DAY;
 ghost use mathlib.Core.Path.{_≡_};
 ghost use Rattle.rules.specs.Sidereal.{sidereal, siderealAt};
 ghost use Rattle.laws.specs.Instant.{InRange};
-
-// A day, in ms.
-const DAY: i64 = 86400000;
 
 // The sidereal angle.
 //
 // Given: t, UT, from -Q to Q.
 // Returned: µas, from 0 to C - 1.
-// Rule: 01, "Polynomials in time" (Aoki 1982). UT counts from noon: the constant has its 12 h in
-// it.
+// Rule: 01, "Polynomials in time" (Aoki 1982). UT counts from noon, and the constant has its 12 h.
 pub fn sidereal_of(t: Ut) -> i64
     requires { ⌜ InRange (t .0) ⌝ }
     ensures { λ r. ⌜ r ≡ sidereal t ⌝ }

@@ -4,17 +4,13 @@ use rules::Direction;
 use rules::Night;
 use rules::Star;
 use rules::Tt;
+use units::CIRCLE;
+use units::YEAR;
 ghost use mathlib.Core.Path.{_≡_};
 ghost use Prim.Native.Nat.{_^_};
 ghost use Rattle.rules.specs.Place as rule;
 ghost use Rattle.laws.specs.Directions.{PartsLe, plus};
 ghost use Rattle.steps.specs.Given.{MotionFits, AnglesFit, StepFits, StarFits};
-
-// C: the circle, in µas.
-const CIRCLE: i64 = 1296000000000;
-
-// A Julian year, in ms.
-const YEAR: i64 = 31557600000;
 
 // The direction (2^30, 0, 0), which step 2 begins with.
 const AHEAD: Direction = Direction {

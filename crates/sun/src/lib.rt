@@ -9,13 +9,11 @@ use rounding::rnd_quotient;
 use rules::Angle;
 use rules::Refusal;
 use rules::Tt;
+use units::UNIT;
 ghost use mathlib.Core.Path.{_≡_};
 ghost use Rattle.rules.specs.Circle as rule;
 ghost use Rattle.rules.specs.Sun.{centre, sunLongitude, sunLongitudeAt};
 ghost use Rattle.laws.specs.Instant.{InRange};
-
-// 1 in a cosine or a sine.
-const UNIT: i64 = 1073741824;
 
 // The Sun's longitude.
 //

@@ -4,13 +4,11 @@ use rules::Direction;
 use rules::Pair;
 use rules::Refusal;
 use rules::Turned;
+use units::CIRCLE;
 ghost use mathlib.Core.Path.{_≡_};
 ghost use mathlib.Core.Bool.{not};
 ghost use Rattle.rules.specs.Turning.{turnRefused, turnBy, turned};
 ghost use Rattle.axes.specs.Given.{TurnFits};
-
-// C: the circle, in µas.
-const CIRCLE: i64 = 1296000000000;
 
 // v turned about an axis, with the angle's pair at hand, and brought to length.
 //

@@ -1,14 +1,12 @@
 // Ranges, sizes and remainders of whole numbers, which every rule of document 01 rests on.
 
+use units::CIRCLE;
 ghost use mathlib.Core.Path.{_≡_};
 ghost use Prim.Native.Nat.{ℕ, _≤_, _^_};
 ghost use lib.IntN.{ℤ, pos, natAbs};
 ghost use lib.Signed.{_<ℤ_};
 ghost use Rattle.rules.specs.Units.{circle, between};
 ghost use Rattle.rules.specs.Rounding.{modulo};
-
-// C: the circle, in µas.
-const CIRCLE: i64 = 1296000000000;
 
 // a modulo d, never negative.
 //

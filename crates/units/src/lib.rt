@@ -1,0 +1,22 @@
+// The numbers of document 01 that have a name, "Numbers, angles, instants".
+
+// C: the circle, half of it, a quarter and half of that, in µas.
+pub const CIRCLE: i64 = 1296000000000;
+
+pub const HALF: i64 = 648000000000;
+
+pub const QUARTER: i64 = 324000000000;
+
+pub const HALF_QUARTER: i64 = 162000000000;
+
+// 1 in a cosine, a sine or a direction, and half a circle in radians, in parts of 2^30.
+pub const UNIT: i64 = 1073741824;
+
+pub const HALF_IN_PARTS: i64 = 3373259426;
+
+// A day, a Julian year, and Q: a Julian century, in ms.
+pub const DAY: i64 = 86400000;
+
+pub const YEAR: i64 = 31557600000;
+
+pub const CENTURY: i64 = 3155760000000;
