@@ -7,15 +7,13 @@ use rules::Moment;
 use rules::Prepared;
 use rules::Refusal;
 use rules::Site;
+use units::MOST;
 ghost use mathlib.Core.Path.{_≡_};
 ghost use mathlib.Core.Bool.{cond};
 ghost use lib.Dec.{eqb};
 ghost use Prim.Native.Nat.{_+_, _<_, _^_};
 ghost use Rattle.rules.specs.Night.{nightOf};
 ghost use Rattle.night_plan.specs.Plans.{todoOf, planOf, workedBy, answerOf, PreparedFits};
-
-// The most entries of a list.
-const MOST: usize = 64;
 
 // What the checks of a list came to: its night, how many entries it has, and how many are to be
 // worked: all, or none where the list is refused.

@@ -7,16 +7,13 @@ use rules::Refusal;
 use star_file::Plan;
 use star_file::reading::list_count;
 use star_file::reading::star_at;
+use units::HEAD;
+use units::RECORD;
 ghost use mathlib.Core.Path.{_≡_};
 ghost use lib.ListN.{length, drop};
 ghost use Prim.Native.Nat.{_+_, _*_, _≤_};
 ghost use Rattle.rules.specs.StarList.{starIn, freshEntry};
 ghost use Rattle.star_file.specs.Plans.{readPlan};
-
-// The length of a file's head and of a record.
-const HEAD: usize = 7;
-
-const RECORD: usize = 24;
 
 // The checks of reading into `room` entries: 9, 10, 5, then 11.
 pub fn read_plan(file: &[u8], room: usize) -> Plan

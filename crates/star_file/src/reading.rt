@@ -7,18 +7,14 @@ use rules::Starred;
 use star_bytes::number_at;
 use star_bytes::two_bytes_at;
 use stars::star_refused;
+use units::HEAD;
+use units::MOST;
+use units::RECORD;
 ghost use mathlib.Core.Path.{_≡_};
 ghost use lib.ListN.{length, drop};
 ghost use Prim.Native.Nat.{_+_, _*_, _≤_};
 ghost use Rattle.rules.specs.StarList.{starIn, starsIn, anyRefused, markRefused, listCount};
 ghost use Rattle.rules.specs.StarList.{listStar};
-
-// The length of a file's head and of a record, and the most records.
-const HEAD: usize = 7;
-
-const RECORD: usize = 24;
-
-const MOST: usize = 64;
 
 // The star of the record that starts at `at`.
 pub fn star_at(file: &[u8], at: usize) -> Star

@@ -2,6 +2,8 @@
 
 use rules::Entry;
 use star_bytes::put_number;
+use units::HEAD;
+use units::RECORD;
 ghost use mathlib.Core.Path.{_≡_};
 ghost use mathlib.Core.List.{_++_};
 ghost use lib.IntN.{ℤ};
@@ -13,11 +15,6 @@ ghost use Rattle.laws.specs.FileLength.{headOf};
 ghost use Rattle.stars.specs.Numbers.{starOf};
 ghost use Rattle.star_bytes.specs.Puts.{put};
 ghost use Rattle.star_records.specs.Records.{lowRecord};
-
-// The length of a file's head and of a record.
-const HEAD: usize = 7;
-
-const RECORD: usize = 24;
 
 // Two numbers, one after the other.
 fn put_pair(room: &mut [u8], at: usize, width: usize, a: i64, b: i64)

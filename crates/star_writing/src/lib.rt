@@ -5,6 +5,9 @@ use rules::Refusal;
 use star_records::put_head;
 use star_records::put_star;
 use stars::numbers_refused;
+use units::HEAD;
+use units::MOST;
+use units::RECORD;
 ghost use mathlib.Core.Path.{_≡_};
 ghost use lib.ListN.{length};
 ghost use Prim.Native.Nat.{_+_, _*_, _≤_};
@@ -12,13 +15,6 @@ ghost use Rattle.rules.specs.StarList.{anyRefused, starsFrom};
 ghost use Rattle.rules.specs.StarList.{numbersWritten, roomAfterNumbers};
 ghost use Rattle.star_bytes.specs.Puts.{put};
 ghost use Rattle.star_records.specs.Records.{lowRecords};
-
-// The length of a file's head and of a record, and the most records.
-const HEAD: usize = 7;
-
-const RECORD: usize = 24;
-
-const MOST: usize = 64;
 
 // Refusal 5: one of the first `count` stars of a row of numbers is refused.
 fn any_refused(numbers: &[i64], count: usize) -> bool

@@ -1,4 +1,4 @@
-// The numbers of document 01 that have a name, "Numbers, angles, instants".
+// The numbers of document 01 that have a name, "Numbers, angles, instants" and "Lists".
 
 // C: the circle, half of it, a quarter and half of that, in µas.
 pub const CIRCLE: i64 = 1296000000000;
@@ -20,3 +20,10 @@ pub const DAY: i64 = 86400000;
 pub const YEAR: i64 = 31557600000;
 
 pub const CENTURY: i64 = 3155760000000;
+
+// The head of a list file and a record of it, in bytes, and the most records.
+pub const HEAD: usize = 7;
+
+pub const RECORD: usize = 24;
+
+pub const MOST: usize = 64;

@@ -6,6 +6,9 @@ use rules::Refusal;
 use star_file::Plan;
 use star_records::put_head;
 use stars::star_refused;
+use units::HEAD;
+use units::MOST;
+use units::RECORD;
 ghost use mathlib.Core.Path.{_≡_};
 ghost use mathlib.Core.Bool.{cond};
 ghost use lib.ListN.{length};
@@ -15,13 +18,6 @@ ghost use Rattle.rules.specs.StarList.{leaving};
 ghost use Rattle.laws.specs.FileLength.{headOf};
 ghost use Rattle.writing_plan.specs.Plans.{Ready, writePlan};
 ghost use Rattle.star_bytes.specs.Puts.{put};
-
-// The length of a file's head and of a record, and the most records.
-const HEAD: usize = 7;
-
-const RECORD: usize = 24;
-
-const MOST: usize = 64;
 
 // One more where the entry's star is accepted.
 pub fn tally(n: usize, entry: Entry) -> usize
