@@ -1,6 +1,5 @@
 -- Document 01, "Errors to expect": what each comes to. That none is made, the contracts say; the edits that make them
--- are
--- refused. A return to length that is dropped is `Demand3` without its bound: `length:no_return_to_length`.
+-- are refused. A return to length that is dropped is `Demand3` without its bound: `length:no_return_to_length`.
 use mathlib.Core.Path.{_≡_, refl}
 use Prim.Native.Nat.{ℕ, _*_, _≤_, _<_, _^_}
 use native.Mathlib.Omega.{arith}

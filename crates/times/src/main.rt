@@ -1,12 +1,11 @@
 // The program `times`, document 01, "Dates": reads lines to the end of standard input, and prints a
-// header, then for
-// each line the day number, UT and TT, or the refusal. A last line without its end counts.
+// header, then for each line the day number, UT and TT, or the refusal. A last line without its end
+// counts.
 
 ghost use Prim.Native.Nat.{_≤_};
 
 // The start of a line: its first bytes, as many as there is room for. A longer line is of another
-// form, and so is its
-// start, so nothing is lost.
+// form, and so is its start, so nothing is lost.
 pub struct Start {
     pub bytes: [u8; 32],
     pub len: usize,

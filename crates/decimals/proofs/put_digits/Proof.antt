@@ -1,5 +1,4 @@
--- `decimals::put_digits` meets its contract. What is done, with the digits left, is the whole; the measure is
--- the
+-- `decimals::put_digits` meets its contract. What is done, with the digits left, is the whole; the measure is the
 -- digits left.
 use mathlib.Core.Path.{_≡_, refl, _∙_}
 use Prim.Native.Nat.{_+_, _-_, _%_, _≤_, _<_}

@@ -1,5 +1,4 @@
--- `decimals::width` meets its contract. The digits counted, and those of the rest, are one more than the answer;
--- the
+-- `decimals::width` meets its contract. The digits counted, and those of the rest, are one more than the answer; the
 -- measure is the digits that may come.
 use mathlib.Core.Path.{_≡_, refl, _∙_}
 use Prim.Native.Nat.{ℕ, _+_, _-_, _/_, _≤_}

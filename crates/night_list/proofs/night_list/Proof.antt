@@ -1,9 +1,7 @@
 -- `night_list::night_list` meets its contract: a walk of its MIR, by hand. The entries' borrow is opened once, before
--- the
--- loop, and closed once, after it. Between the two the row of entries is the function's own: `ps`, which are done,
--- `zs`,
--- which are to be worked and as they came, and `ds`, past the plan's count. All that the proof knows of its callees is
--- that each meets its contract.
+-- the loop, and closed once, after it. Between the two the row of entries is the function's own: `ps`, which are done,
+-- `zs`, which are to be worked and as they came, and `ds`, past the plan's count. All that the proof knows of its
+-- callees is that each meets its contract.
 use mathlib.Core.Path.{_≡_, refl, sym, _∙_, ap, subst}
 use Prim.Native.Nat.{ℕ, _<_, _^_, _+_, _*_, _≤_}
 use native.Mathlib.Omega.{arith}

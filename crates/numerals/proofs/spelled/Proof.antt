@@ -1,5 +1,4 @@
--- `numerals::spelled` meets its contract. The number so far, with the bytes left, is the number; the measure is
--- the
+-- `numerals::spelled` meets its contract. The number so far, with the bytes left, is the number; the measure is the
 -- bytes left.
 use mathlib.Core.Path.{_≡_, refl, sym, _∙_, ap}
 use mathlib.Core.List.{List}

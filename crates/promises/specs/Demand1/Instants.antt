@@ -1,6 +1,5 @@
 -- Demand 1 of the angles at an instant, 12: of TT precession, obliquity and the arguments of nutation (`precession`,
--- `arguments`),
--- nutation (`nutation`) and the Sun's longitude (`sun`), of UT the sidereal angle (`sidereal`).
+-- `arguments`), nutation (`nutation`) and the Sun's longitude (`sun`), of UT the sidereal angle (`sidereal`).
 use mathlib.Core.Path.{_≡_, refl, ap, _∙_}
 use mathlib.Core.Logic.{_↔_}
 use mathlib.Core.List.{[], _∷_}

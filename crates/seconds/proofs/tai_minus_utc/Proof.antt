@@ -1,6 +1,5 @@
--- `seconds::tai_minus_utc` meets its contract. The seconds, and the steps still to come that are counted,
--- make
--- the answer; the measure is the steps left.
+-- `seconds::tai_minus_utc` meets its contract. The seconds, and the steps still to come that are counted, make the
+-- answer; the measure is the steps left.
 use mathlib.Core.Path.{_≡_, sym, _∙_, ap}
 use mathlib.Core.Logic.{⊎-elim}
 use mathlib.Core.Bool.{Bool, true, false, cond}
