@@ -5,9 +5,9 @@ use Rattle.rules.specs.declared.Date.{Date}
 use Rattle.rules.specs.Refusals.{Answer, instantsAnswer}
 use Rattle.rules.specs.Dates.{instants}
 use Rattle.answers.specs.Given.{momentOf}
-use Rattle.inner_dates.specs.declared.InnerDay.{InnerDay}
-use Rattle.inner_dates.specs.declared.InnerDate.{InnerDate}
-use Rattle.inner_dates.specs.declared.InnerInstants.{InnerInstants}
+use Rattle.inner_dates.specs.declared.days.InnerDay.{InnerDay}
+use Rattle.inner_dates.specs.declared.days.InnerDate.{InnerDate}
+use Rattle.inner_dates.specs.declared.moments.InnerInstants.{InnerInstants}
 
 -- plain numbers as a date
 abbrev pub inDate : ℤ → ℤ → ℤ → Date

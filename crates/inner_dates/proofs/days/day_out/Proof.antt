@@ -1,4 +1,4 @@
--- `inner_dates::day_out` meets its contract.
+-- `inner_dates::days::day_out` meets its contract.
 use mathlib.Core.Path.{_≡_, _∙_}
 use borrow.Author.Needs.{needs}
 use mir.Syntax.{w64}
@@ -6,8 +6,8 @@ use mir.Val.{toZ, ofZ}
 use Rattle.rules.specs.Refusals.{given, refused, numberedAnswer}
 use Rattle.words.specs.Fits.{held64}
 use Rattle.inner_dates.specs.Dates.{innerDay}
-use Rattle.inner_dates.proofs.day_out.Statement.{statement}
-use Rattle.inner_dates.proofs.day_out.Tie as tie
+use Rattle.inner_dates.proofs.days.day_out.Statement.{statement}
+use Rattle.inner_dates.proofs.days.day_out.Tie as tie
 
 enum-known-a : tie.Need-enum-known-a
 enum-known-a c = search needs

@@ -1,11 +1,11 @@
--- `inner_dates::inner_date_of` meets its contract.
+-- `inner_dates::days::inner_date_of` meets its contract.
 use mathlib.Core.Path.{ap, _∙_}
 use borrow.Author.Needs.{needs}
 use mir.Facts.{toZ-ofZ}
 use Rattle.rules.specs.Refusals.{datedAnswer}
 use Rattle.inner_dates.specs.Dates.{innerDate}
-use Rattle.inner_dates.proofs.inner_date_of.Statement.{statement}
-use Rattle.inner_dates.proofs.inner_date_of.Tie as tie
+use Rattle.inner_dates.proofs.days.inner_date_of.Statement.{statement}
+use Rattle.inner_dates.proofs.days.inner_date_of.Tie as tie
 
 date-of-requires : tie.Need-date-of-requires
 date-of-requires c κs = search needs

@@ -1,11 +1,11 @@
--- `inner_dates::inner_instants` meets its contract.
+-- `inner_dates::moments::inner_instants` meets its contract.
 use mathlib.Core.Path.{ap, _∙_}
 use borrow.Author.Needs.{needs}
 use mir.Facts.{toZ-ofZ}
 use Rattle.rules.specs.Refusals.{instantsAnswer}
 use Rattle.inner_dates.specs.Dates.{innerInstants}
-use Rattle.inner_dates.proofs.inner_instants.Statement.{statement}
-use Rattle.inner_dates.proofs.inner_instants.Tie as tie
+use Rattle.inner_dates.proofs.moments.inner_instants.Statement.{statement}
+use Rattle.inner_dates.proofs.moments.inner_instants.Tie as tie
 
 instants-requires : tie.Need-instants-requires
 instants-requires c κs = search needs

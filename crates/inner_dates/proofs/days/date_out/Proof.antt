@@ -1,4 +1,4 @@
--- `inner_dates::date_out` meets its contract.
+-- `inner_dates::days::date_out` meets its contract.
 use mathlib.Core.Path.{_∙_}
 use borrow.Author.Needs.{needs}
 use mir.Syntax.{w32}
@@ -8,8 +8,8 @@ use Rattle.rules.specs.Refusals.{given, refused, datedAnswer}
 use Rattle.words.specs.Fits.{held64}
 use Rattle.words.specs.Holds.{widened, widened-ok}
 use Rattle.inner_dates.specs.Dates.{innerDate}
-use Rattle.inner_dates.proofs.date_out.Statement.{statement}
-use Rattle.inner_dates.proofs.date_out.Tie as tie
+use Rattle.inner_dates.proofs.days.date_out.Statement.{statement}
+use Rattle.inner_dates.proofs.days.date_out.Tie as tie
 
 enum-known-a : tie.Need-enum-known-a
 enum-known-a c = search needs

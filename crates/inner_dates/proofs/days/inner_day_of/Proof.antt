@@ -1,11 +1,11 @@
--- `inner_dates::inner_day_of` meets its contract.
+-- `inner_dates::days::inner_day_of` meets its contract.
 use mathlib.Core.Path.{ap, _∙_}
 use borrow.Author.Needs.{needs}
 use mir.Facts.{toZ-ofZ}
 use Rattle.rules.specs.Refusals.{numberedAnswer}
 use Rattle.inner_dates.specs.Dates.{innerDay}
-use Rattle.inner_dates.proofs.inner_day_of.Statement.{statement}
-use Rattle.inner_dates.proofs.inner_day_of.Tie as tie
+use Rattle.inner_dates.proofs.days.inner_day_of.Statement.{statement}
+use Rattle.inner_dates.proofs.days.inner_day_of.Tie as tie
 
 day-of-requires : tie.Need-day-of-requires
 day-of-requires c κs = search needs
