@@ -8,15 +8,14 @@ use units::QUARTER;
 use units::UNIT;
 ghost use mathlib.Core.Path.{_≡_};
 ghost use Prim.Native.Nat.{_≤_, _^_};
-ghost use lib.IntN.{ℤ, pos, negℤ, natAbs, _+ℤ_, _-ℤ_, _*ℤ_};
+ghost use lib.IntN.{ℤ, pos, negℤ, natAbs, _-ℤ_, _*ℤ_};
 ghost use Rattle.rules.specs.Units.{quarter, unit};
 ghost use Rattle.rules.specs.Rounding.{rnd, remainder};
 ghost use Rattle.rules.specs.Circle.{pair};
-ghost use Rattle.rules.specs.Sidereal.{sidereal};
 ghost use Rattle.rules.specs.Night as rule;
 ghost use Rattle.laws.specs.Angles.{Sized};
 ghost use Rattle.night_parts.specs.Given.{ScaledFits, LocalFits};
-ghost use Rattle.night_parts.specs.Parts.{opposite};
+ghost use Rattle.night_parts.specs.Parts.{opposite, localAngle};
 
 // The constant of aberration, in parts of 2^30.
 const ABERRATION: i64 = 106692;
@@ -57,7 +56,7 @@ pub fn aberration(s: Pair, e: Pair) -> Direction
 // 6. The pair of minus the local sidereal angle: Δψ, the cosine of ε, the site's longitude.
 pub fn sidereal_pair(ut: Ut, nutation: i64, cosine: i64, longitude: i64) -> Pair
     requires { ⌜ LocalFits ut nutation cosine longitude ⌝ }
-    ensures { λ r. ⌜ r ≡ pair (remainder (negℤ (sidereal ut +ℤ rnd (nutation *ℤ cosine) unit +ℤ longitude))) ⌝ }
+    ensures { λ r. ⌜ r ≡ pair (remainder (negℤ (localAngle ut nutation cosine longitude))) ⌝ }
 {
     let local = sidereal::sidereal_of(ut) + scaled(nutation, cosine) + longitude;
     circle::pair(-local % CIRCLE)

@@ -1,5 +1,5 @@
--- `entries_writing::accepted_entries` meets its contract: a walk of its MIR, by hand. The shared borrow is copied; one copy
--- is looked into before the loop and shut after it, the other is kept for the exit.
+-- `entries_writing::accepted_entries` meets its contract: a walk of its MIR, by hand. The shared borrow is copied;
+-- one copy is looked into before the loop and shut after it, the other is kept for the exit.
 -- All that the proof knows of `tally` is that it meets its contract.
 use mathlib.Core.Path.{_≡_, refl, sym, _∙_, ap}
 use Prim.Native.Nat.{ℕ, _<_, _^_, _+_, _*_, _≤_}

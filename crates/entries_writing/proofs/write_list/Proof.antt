@@ -1,6 +1,6 @@
--- `entries_writing::write_list` meets its contract: a walk of its MIR, by hand, with two lent slices. The entries' borrow is
--- shared: it is looked into before the loop and shut after it. The room is lent again to the call of each turn and
--- comes back from it. All that the proof knows of its callees is that each meets its contract.
+-- `entries_writing::write_list` meets its contract: a walk of its MIR, by hand, with two lent slices. The entries'
+-- borrow is shared: it is looked into before the loop and shut after it. The room is lent again to the call of each
+-- turn and comes back from it. All that the proof knows of its callees is that each meets its contract.
 use mathlib.Core.Path.{_≡_, refl, sym, _∙_, ap, subst}
 use Prim.Native.Nat.{ℕ, _<_, _^_, _+_, _*_, _≤_}
 use native.Mathlib.Omega.{arith}

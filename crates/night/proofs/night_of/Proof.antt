@@ -21,33 +21,38 @@ enum-known-instants-2 c = search needs
 
 -- ---- instants
 
-abbrev ut : tie.After-known-told → Ut
-ut c = c .before .instants2 .given .0 .0
+module _ (c : tie.After-known-told) where
+  abbrev start : tie.Start
+  start = c .before .before .before .before
 
-abbrev utc : tie.After-known-told → Tt
-utc c = c .before .instants2 .given .0 .1 .0
+  abbrev ut : Ut
+  ut = c .before .instants2 .given .0 .0
 
-instants-are : (c : tie.After-known-told)
-    → instants (c .before .before .before .before .args .moment) ≡ Instants.At (ut c) (utc c)
-instants-are c = sym (c .before .before .before .instants .ensures) ∙ c .before .instants2 .given .1
+  abbrev tt-of : Tt
+  tt-of = c .before .instants2 .given .0 .1 .0
+
+  instants-are : instants (start .args .moment) ≡ Instants.At ut tt-of
+  instants-are = sym (c .before .before .before .instants .ensures) ∙ c .before .instants2 .given .1
 
 prepared-requires : tie.Need-prepared-requires
 prepared-requires c κs =
-    let m = c .before .before .before .before .args .moment in
-    (ut-within m (ut c) (utc c) (instants-are c), tt-within m (ut c) (utc c) (instants-are c))
+    let m = start c .args .moment in
+    (ut-within m (ut c) (tt-of c) (instants-are c), tt-within m (ut c) (tt-of c) (instants-are c))
 
 returns : tie.Need-returns
 unfolding nightOf
-returns c = c .prepared .ensures ∙ ap (λ i. nightAt i (c .before .before .before .before .before .args .site)) (sym (instants-are (c .before)))
+returns c =
+    let known = c .before in
+    c .prepared .ensures ∙ ap (λ i. nightAt i (start known .args .site)) (sym (instants-are known))
 
 -- ---- a refusal
 
 returns-2 : tie.Need-returns-2
 unfolding nightOf nightAt
 returns-2 c =
-    let start = c .before .before .before .before in
+    let site = c .before .before .before .before .args .site in
     let are = sym (c .before .before .before .instants .ensures) ∙ c .before .instants3 .given .1 in
-    ap (λ i. nightAt i (start .args .site)) (sym are)
+    ap (λ i. nightAt i site) (sym are)
 
 pub night-of-spec : {M : Type 1} → statement M
 night-of-spec =

@@ -18,7 +18,9 @@ is-between-requires c κs = search needs
 latitude-tested : (c : tie.After-is-between)
     → c .is-between .result ≡ within quarter (c .before .before .args .site .latitude)
 unfolding within
-latitude-tested c = rw (held64 (c .before .before .args .site .latitude) (c .before .struct-told .given .0 .1)) at (c .is-between .ensures)
+latitude-tested c =
+    let latitude = c .before .before .args .site .latitude in
+    rw (held64 latitude (c .before .struct-told .given .0 .1)) at (c .is-between .ensures)
 
 returns : tie.Need-returns
 unfolding siteRefused
@@ -34,8 +36,8 @@ longitude-tested : (c : tie.After-is-between2)
     → c .is-between2 .result ≡ within half (c .before .before .before .before .before .args .site .longitude)
 unfolding within
 longitude-tested c =
-    rw (held64 (c .before .before .before .before .before .args .site .longitude) (c .before .struct-told2 .given .1 .0 .1))
-    at (c .is-between2 .ensures)
+    let longitude = c .before .before .before .before .before .args .site .longitude in
+    rw (held64 longitude (c .before .struct-told2 .given .1 .0 .1)) at (c .is-between2 .ensures)
 
 returns-2 : tie.Need-returns-2
 unfolding siteRefused

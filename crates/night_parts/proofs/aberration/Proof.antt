@@ -2,7 +2,7 @@
 use mathlib.Core.Path.{_∙_}
 use native.Mathlib.Omega.{arith}
 use borrow.Author.Needs.{needs}
-use lib.IntN.{ℤ, pos, _*ℤ_}
+use lib.IntN.{pos, _*ℤ_}
 use Rattle.words.specs.Fits.{held64}
 use Rattle.words.specs.Holds.{Holds, bits, _-ʷ_, arg, got, negate, negate-ok}
 use Rattle.rules.specs.Units.{unit}
@@ -33,9 +33,9 @@ along-holds : (c : tie.After-scaled)
     aberrationConstant
 along-holds c =
     let start = c .before .before in
+    let k = aberrationConstant in
     got (rw (sun-cosine-holds start .value) at (c .scaled .ensures))
-    (scaled-le (pos aberrationConstant) (start .args .s .cosine) aberrationConstant (omega arith) (start .pre .0 .cosine-le))
-    tt
+    (scaled-le (pos k) (start .args .s .cosine) k (omega arith) (start .pre .0 .cosine-le)) tt
 
 sub-by : tie.Need-sub-by
 sub-by c = negate-ok (along-holds c) tt

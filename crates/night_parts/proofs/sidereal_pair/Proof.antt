@@ -1,5 +1,5 @@
 -- `night_parts::sidereal_pair` meets its contract.
-use Prim.Native.Nat.{_+_, _*_, _^_}
+use Prim.Native.Nat.{_+_, _^_}
 use borrow.Author.Needs.{needs}
 use lib.IntN.{ℤ, _+ℤ_, _*ℤ_}
 use lib.Signed.{ltZ-yes}
@@ -37,12 +37,16 @@ equinoxes-hold : (c : tie.After-scaled)
     → Holds (bits (c .scaled .result)) (equinoxes (c .before .before)) (2 ^ 31)
 equinoxes-hold c =
     let start = c .before .before in
+    let a = start .args in
     got (rw (nutation-holds start .value, cosine-holds start .value) at (c .scaled .ensures))
-    (scaled-le (start .args .nutation) (start .args .cosine) (2 ^ 31) (start .pre .nutation-le) (start .pre .cosine-le)) tt
+    (scaled-le (a .nutation) (a .cosine) (2 ^ 31) (start .pre .nutation-le) (start .pre .cosine-le)) tt
+
+abbrev longitude : tie.After-scaled → ℤ
+longitude c = c .before .before .args .longitude
 
 local-holds : (c : tie.After-scaled)
-    → Holds (bits (c .before .sidereal-of .result) +ʷ bits (c .scaled .result) +ʷ bits (c .before .before .args .longitude))
-    (sidereal (c .before .before .args .ut) +ℤ equinoxes (c .before .before) +ℤ c .before .before .args .longitude)
+    → Holds (bits (c .before .sidereal-of .result) +ʷ bits (c .scaled .result) +ʷ bits (longitude c))
+    (sidereal (c .before .before .args .ut) +ℤ equinoxes (c .before .before) +ℤ longitude c)
     (circle + 2 ^ 31 + circle)
 local-holds c =
     add (add (sidereal-holds (c .before)) (equinoxes-hold c) tt) (longitude-holds (c .before .before)) tt

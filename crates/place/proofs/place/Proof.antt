@@ -21,33 +21,39 @@ enum-known-instants-2 c = search needs
 
 -- ---- instants
 
-abbrev ut : tie.After-known-told → Ut
-ut c = c .before .instants2 .given .0 .0
+module _ (c : tie.After-known-told) where
+  abbrev start : tie.Start
+  start = c .before .before .before .before
 
-abbrev utc : tie.After-known-told → Tt
-utc c = c .before .instants2 .given .0 .1 .0
+  abbrev ut : Ut
+  ut = c .before .instants2 .given .0 .0
 
-instants-are : (c : tie.After-known-told)
-    → instants (c .before .before .before .before .args .moment) ≡ Instants.At (ut c) (utc c)
-instants-are c = sym (c .before .before .before .instants .ensures) ∙ c .before .instants2 .given .1
+  abbrev tt-of : Tt
+  tt-of = c .before .instants2 .given .0 .1 .0
+
+  instants-are : instants (start .args .moment) ≡ Instants.At ut tt-of
+  instants-are = sym (c .before .before .before .instants .ensures) ∙ c .before .instants2 .given .1
 
 placed-requires : tie.Need-placed-requires
 placed-requires c κs =
-    let m = c .before .before .before .before .args .moment in
-    (ut-within m (ut c) (utc c) (instants-are c), tt-within m (ut c) (utc c) (instants-are c))
+    let m = start c .args .moment in
+    (ut-within m (ut c) (tt-of c) (instants-are c), tt-within m (ut c) (tt-of c) (instants-are c))
 
 returns : tie.Need-returns
 unfolding place
-returns c = c .placed .ensures ∙ ap (λ i. placeAt i (c .before .before .before .before .before .args .star) (c .before .before .before .before .before .args .site)) (sym (instants-are (c .before)))
+returns c =
+    let known = c .before in
+    let a = start known .args in
+    c .placed .ensures ∙ ap (λ i. placeAt i (a .star) (a .site)) (sym (instants-are known))
 
 -- ---- a refusal
 
 returns-2 : tie.Need-returns-2
 unfolding place placeAt
 returns-2 c =
-    let start = c .before .before .before .before in
+    let a = c .before .before .before .before .args in
     let are = sym (c .before .before .before .instants .ensures) ∙ c .before .instants3 .given .1 in
-    ap (λ i. placeAt i (start .args .star) (start .args .site)) (sym are)
+    ap (λ i. placeAt i (a .star) (a .site)) (sym are)
 
 pub place-spec : {M : Type 1} → statement M
 place-spec =

@@ -40,8 +40,9 @@ night-at-requires c κs =
 place-in-requires : tie.Need-place-in-requires
 place-in-requires c κs =
     let start = c .before .before .before .before .before in
+    let a = start .args in
     record {
-      night = rw (c .night-at .ensures) (night-fits (start .args .ut) (start .args .tt) (start .args .site) (start .pre .1));
+      night = rw (c .night-at .ensures) (night-fits (a .ut) (a .tt) (a .site) (start .pre .1));
       star = star-accepted (c .before .before .before);
     }
 

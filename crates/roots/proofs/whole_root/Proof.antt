@@ -72,9 +72,10 @@ closer-to-root-requires c κs = (
 second-bits : (c : tie.After-closer-to-root Inv-loop μ-loop)
     → ofZ w64 (c .closer-to-root .result)
     ≡ closer (number (c .before .before .before)) (natAbs (c .before .first-trial .result))
-second-bits c = ap (ofZ w64)
-    (rw (toZ-ofZ (c .before .before .before .fits .n), held64 (c .before .first-trial .result) (c .before .first-trial .ok))
-    at (c .closer-to-root .ensures))
+second-bits c =
+    let trial = c .before .first-trial in
+    let start = c .before .before .before in
+    ap (ofZ w64) (rw (toZ-ofZ (start .fits .n), held64 (trial .result) (trial .ok)) at (c .closer-to-root .ensures))
 
 loop-holds : tie.Need-loop-holds Inv-loop μ-loop
 loop-holds c =

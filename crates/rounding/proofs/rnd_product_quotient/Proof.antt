@@ -3,7 +3,7 @@
 use Prim.Native.Nat.{ℕ, _+_, _*_, _-_, _≤_, _^_}
 use mathlib.Core.Path.{_∙_}
 use native.Mathlib.Omega.{arith}
-use lib.IntN.{ℤ, pos, natAbs, _+ℤ_, _*ℤ_}
+use lib.IntN.{pos, natAbs, _+ℤ_, _*ℤ_}
 use lib.Signed.{quotZ, remZ, ltZ-yes}
 use Rattle.integers.specs.Quotient.{size-pos}
 use Rattle.rules.specs.Rounding.{rnd}
@@ -80,7 +80,8 @@ high-quotient-holds c =
     (omega (arith, high-quotient-le (c .args .a) (c .args .b) (c .args .d) (c .pre)))
 
 middle-quotient-holds : (c : tie.Start)
-    → Holds (middleBits c /ʷ bits (c .args .d)) (quotZ (middle (c .args .a) (c .args .b) (c .args .d)) (c .args .d)) most
+    → Holds (middleBits c /ʷ bits (c .args .d))
+    (quotZ (middle (c .args .a) (c .args .b) (c .args .d)) (c .args .d)) most
 middle-quotient-holds c = div (middle-holds c) (d-holds c) (c .pre .divisor-pos) tt
 
 quotients-small : (c : tie.Start) → natAbs (quotients (c .args .a) (c .args .b) (c .args .d)) ≤ 2 ^ 41
@@ -172,8 +173,10 @@ add-result-2 c =
 
 returns : tie.Need-returns
 returns c =
-    add-to (mul (quotients-hold (c .before)) digit-holds tt) (rounded-holds c) (2 ^ 61) (result-le (c .before)) tt .value
-    ∙ carried-is (c .before .args .a) (c .before .args .b) (c .before .args .d) (c .before .pre .divisor-pos)
+    let start = c .before in
+    let a = start .args in
+    add-to (mul (quotients-hold start) digit-holds tt) (rounded-holds c) (2 ^ 61) (result-le start) tt .value
+    ∙ carried-is (a .a) (a .b) (a .d) (start .pre .divisor-pos)
 
 pub rnd-product-quotient-spec : {M : Type 1} → statement M
 rnd-product-quotient-spec =

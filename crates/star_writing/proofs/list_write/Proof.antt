@@ -47,27 +47,34 @@ returns c =
     refuses (a .numbers .now) (a .room .now) Refusal.Star
     (numbers-refused-5 (a .numbers .now) (a .room .now) (sym (tested (c .before)) ∙ c .if1 .taken))
 
-accepted : (c : tie.Else1) → anyRefused (numberStars (c .before .before .before .args .numbers .now)) ≡ false
-accepted c = sym (tested (c .before)) ∙ c .if1 .left
+module _ (c : tie.Else1) where
+  abbrev start : tie.Start
+  start = c .before .before .before
+
+  accepted : anyRefused (numberStars (start .args .numbers .now)) ≡ false
+  accepted = sym (tested (c .before)) ∙ c .if1 .left
 
 returns-2 : tie.Need-returns-2
 returns-2 c =
-    let a = c .before .before .before .before .args in
+    let a = start (c .before) .args in
     refuses (a .numbers .now) (a .room .now) Refusal.Room
     (numbers-refused-11 (a .numbers .now) (a .room .now) (accepted (c .before))
     (row-uneven (a .numbers .now) (length (a .room .now)) (c .if2 .taken)))
 
-even : (c : tie.Else2) → rowRefused (c .before .before .before .before .args .numbers .now)
-    (length (c .before .before .before .before .args .room .now))
-    ≡ roomRefused (length (c .before .before .before .before .args .numbers .now) / 4)
-    (length (c .before .before .before .before .args .room .now))
-unfolding countFrom
-even c = row-even (c .before .before .before .before .args .numbers .now)
-    (length (c .before .before .before .before .args .room .now)) (c .if2 .left)
+module _ (c : tie.Else2) where
+  abbrev row-at : List ℤ
+  row-at = start (c .before) .args .numbers .now
+
+  abbrev room-at : List ℕ
+  room-at = start (c .before) .args .room .now
+
+  even : rowRefused row-at (length room-at) ≡ roomRefused (length row-at / 4) (length room-at)
+  unfolding countFrom
+  even = row-even row-at (length room-at) (c .if2 .left)
 
 returns-3 : tie.Need-returns-3
 returns-3 c =
-    let a = c .before .before .before .before .before .args in
+    let a = start (c .before .before) .args in
     refuses (a .numbers .now) (a .room .now) Refusal.Room
     (numbers-refused-11 (a .numbers .now) (a .room .now) (accepted (c .before .before))
     (even (c .before) ∙ room-many (length (a .numbers .now) / 4) (length (a .room .now)) (c .if3 .taken)))
@@ -81,20 +88,22 @@ add-if4 c = search needs
 returns-4 : tie.Need-returns-4
 unfolding fileLength
 returns-4 c =
-    let a = c .before .before .before .before .before .before .args in
+    let a = start (c .before .before .before) .args in
     refuses (a .numbers .now) (a .room .now) Refusal.Room
     (numbers-refused-11 (a .numbers .now) (a .room .now) (accepted (c .before .before .before))
     (even (c .before .before)
     ∙ room-small (length (a .numbers .now) / 4) (length (a .room .now)) (c .before .if3 .left) (c .if4 .taken)))
 
 -- nothing is refused
-fits : (c : tie.Else4) → rowRefused (c .before .before .before .before .before .before .args .numbers .now)
-    (length (c .before .before .before .before .before .before .args .room .now)) ≡ false
-unfolding fileLength
-fits c =
-    let a = c .before .before .before .before .before .before .args in
-    even (c .before .before)
-    ∙ room-enough (length (a .numbers .now) / 4) (length (a .room .now)) (c .before .if3 .left) (c .if4 .left)
+module _ (c : tie.Else4) where
+  abbrev even-at : tie.Else2
+  even-at = c .before .before
+
+  fits : rowRefused (row-at even-at) (length (room-at even-at)) ≡ false
+  unfolding fileLength
+  fits =
+      even even-at
+      ∙ room-enough (length (row-at even-at) / 4) (length (room-at even-at)) (c .before .if3 .left) (c .if4 .left)
 
 put-stars-requires : tie.Need-put-stars-requires
 put-stars-requires c κs = search needs
@@ -114,19 +123,19 @@ same-length c = search needs
 returns-5 : tie.Need-returns-5
 unfolding fileLength countFrom numberStars
 returns-5 c =
-    let else = c .before .before .before .before .before .before .before .before in
-    let a = c .before .before .before .before .before .before .before .before .before .before .before .before .before .before .args in
-    let row = a .numbers .now in
-    let room = a .room .now in
-    let answer = numbers-counted row room (accepted
-    (c .before .before .before .before .before .before .before .before .before .before .before)) (fits else) in (
+    let head-put = c .before .before in
+    let stars-put = head-put .before .before .before .before in
+    let else = stars-put .before .before in
+    let row = row-at (even-at else) in
+    let room = room-at (even-at else) in
+    let none-refused = accepted (even-at else .before) in
+    let answer = numbers-counted row room none-refused (fits else) in (
       sym answer,
-      writes row room (c .before .before .put-head .last .0) answer
-          (c .before .before .put-head .ensures
+      writes row room (head-put .put-head .last .0) answer
+          (head-put .put-head .ensures
           ∙ ap (λ r. put r 0 (headOf (countFrom row)))
-          (c .before .before .before .before .before .before .put-stars .ensures
-          ∙ ap (put room 7) (low-records (numberStars row)
-          (all-fit (numberStars row) (accepted (c .before .before .before .before .before .before .before .before .before .before .before)))))
+          (stars-put .put-stars .ensures
+          ∙ ap (put room 7) (low-records (numberStars row) (all-fit (numberStars row) none-refused)))
           ∙ file-put (numberStars row) room (countFrom row) (number-count row) (else .if4 .left)),
     )
 

@@ -81,11 +81,12 @@ directed-requires c κs =
     let k = ranges start in
     let n = start .args .n in
     let s = start .args .s in
+    let instant = start .pre .night .instant in
     rw (ra-is (c .before .before .before), declination-is c) (record {
-      ra-le = omega (arith, moved-le (n .tt) (s .ra) (s .«ra_motion») (start .pre .night .instant) (k .ra-le) (k .ra-motion-le));
+      ra-le = omega (arith, moved-le (n .tt) (s .ra) (s .«ra_motion») instant (k .ra-le) (k .ra-motion-le));
       declination-le = omega (
         arith,
-        moved-le (n .tt) (s .declination) (s .«declination_motion») (start .pre .night .instant)
+        moved-le (n .tt) (s .declination) (s .«declination_motion») instant
             (omega (arith, k .declination-le)) (k .declination-motion-le),
       );
     })
@@ -101,7 +102,10 @@ second-is c =
 precessed-requires : tie.Need-precessed-requires
 precessed-requires c κs =
     let start = c .before .before .before .before .before .before .before .before in
-    record { night = start .pre .night; direction = rw (second-is c) (directed-accepted (ra start) (declination start)) }
+    record {
+      night = start .pre .night;
+      direction = rw (second-is c) (directed-accepted (ra start) (declination start));
+    }
 
 abbrev third : tie.Start → Direction
 third c = precessed (c .args .n) (second c)

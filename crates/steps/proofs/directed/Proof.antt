@@ -1,8 +1,8 @@
 -- `steps::directed` meets its contract.
 use mathlib.Core.Path.{_≡_, ap, _∙_}
-use Prim.Native.Nat.{_+_, _-_, _^_}
+use Prim.Native.Nat.{_+_, _^_}
 use borrow.Author.Needs.{needs}
-use lib.IntN.{ℤ, pos, negℤ, _+ℤ_, +ℤ-idl}
+use lib.IntN.{pos, negℤ, _+ℤ_, +ℤ-idl}
 use lib.Signed.{remZ, ltZ-yes}
 use Rattle.words.specs.Holds.{Holds, bits, _-ʷ_, arg, lit, sub, sub-ok, div-ok, rem}
 use Rattle.rules.specs.declared.Direction.{Direction}
@@ -26,7 +26,8 @@ ra-holds c = arg (c .args .ra) (c .pre .ra-le) tt
 declination-holds : (c : tie.Start) → Holds (bits (c .args .declination)) (c .args .declination) (2 ^ 60)
 declination-holds c = arg (c .args .declination) (c .pre .declination-le) tt
 
-negative-holds : (c : tie.Start) → Holds (0 -ʷ bits (c .args .declination)) (pos 0 +ℤ negℤ (c .args .declination)) (2 ^ 60)
+negative-holds : (c : tie.Start)
+    → Holds (0 -ʷ bits (c .args .declination)) (pos 0 +ℤ negℤ (c .args .declination)) (2 ^ 60)
 negative-holds c = sub (lit 0 tt) (declination-holds c) tt
 
 sub-pair : tie.Need-sub-pair
@@ -54,7 +55,8 @@ first-pair c =
 
 turn-by-requires : tie.Need-turn-by-requires
 turn-by-requires c κs =
-    record { direction = ahead-accepted; pair = rw (first-pair c) (pair-length (remainder (negℤ (c .before .args .declination)))) }
+    let opposite = negℤ (c .before .args .declination) in
+    record { direction = ahead-accepted; pair = rw (first-pair c) (pair-length (remainder opposite)) }
 
 abbrev raised : tie.Start → Direction
 raised c = turnBy (+ 2) (pair (remainder (negℤ (c .args .declination)))) ahead

@@ -20,10 +20,13 @@ abbrev second : tie.Start → Direction
 second c = turnBy (+ 3) (c .args .n .longitude) (first c)
 
 second-accepted : (c : tie.Start) → Accepted (squares (second c))
-second-accepted c = turnBy-accepted (+ 3) (c .args .n .longitude) (first c) (c .pre .night .longitude) (first-accepted c)
+second-accepted c =
+    turnBy-accepted (+ 3) (c .args .n .longitude) (first c) (c .pre .night .longitude) (first-accepted c)
 
 turn-by-requires : tie.Need-turn-by-requires
-turn-by-requires c κs = record { direction = c .before .before .before .pre .direction; pair = c .before .before .before .pre .night .mean }
+turn-by-requires c κs =
+    let start = c .before .before .before in
+    record { direction = start .pre .direction; pair = start .pre .night .mean }
 
 turn-by-requires-2 : tie.Need-turn-by-requires-2
 turn-by-requires-2 c κs =

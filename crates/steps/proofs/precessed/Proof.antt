@@ -23,7 +23,9 @@ second-accepted : (c : tie.Start) → Accepted (squares (second c))
 second-accepted c = turnBy-accepted (+ 2) (c .args .n .theta) (first c) (c .pre .night .theta) (first-accepted c)
 
 turn-by-requires : tie.Need-turn-by-requires
-turn-by-requires c κs = record { direction = c .before .before .before .pre .direction; pair = c .before .before .before .pre .night .zeta }
+turn-by-requires c κs =
+    let start = c .before .before .before in
+    record { direction = start .pre .direction; pair = start .pre .night .zeta }
 
 turn-by-requires-2 : tie.Need-turn-by-requires-2
 turn-by-requires-2 c κs =

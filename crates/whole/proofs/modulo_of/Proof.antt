@@ -1,7 +1,7 @@
 -- `whole::modulo_of` meets its contract.
 use mathlib.Core.Path.{_≡_}
 use native.Mathlib.Omega.{arith}
-use lib.IntN.{ℤ, pos, natAbs, _+ℤ_}
+use lib.IntN.{pos, natAbs, _+ℤ_}
 use lib.Signed.{remZ}
 use mir.Syntax.{w64}
 use mir.Val.{toZ, ofZ, SFits}
@@ -35,9 +35,11 @@ sum-is c = modulo-of-negative (c .before .args .a) (c .before .args .d) (c .befo
 
 sum-fits : (c : tie.Then1) → SFits w64 (remZ (c .before .args .a) (c .before .args .d) +ℤ c .before .args .d)
 sum-fits c =
-    let d = c .before .args .d in
-    rw (sum-is c) (fits64 (pos (modulo (c .before .args .a) (natAbs d)))
-    (omega (arith, modulo-lt (c .before .args .a) (natAbs d) (size-pos d (c .before .pre)), size64 d (c .before .fits .d))))
+    let start = c .before in
+    let a = start .args .a in
+    let d = start .args .d in
+    rw (sum-is c) (fits64 (pos (modulo a (natAbs d)))
+    (omega (arith, modulo-lt a (natAbs d) (size-pos d (start .pre)), size64 d (start .fits .d))))
 
 add-result : tie.Need-add-result
 add-result c = simp held (sum-fits c)

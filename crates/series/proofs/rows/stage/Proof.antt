@@ -52,8 +52,8 @@ quotient-holds : (c : tie.After-rnd-short-quotient)
     (rnd (c .before .args .w *ℤ c .before .args .p) (unit * natAbs (c .before .args .k))) unit
 quotient-holds c =
     let b = c .before in
-    got
-    (rw (product-holds b .value, divisor-holds b .value, abs-mul (pos unit) (b .args .k)) at (c .rnd-short-quotient .ensures))
+    let size = abs-mul (pos unit) (b .args .k) in
+    got (rw (product-holds b .value, divisor-holds b .value, size) at (c .rnd-short-quotient .ensures))
     (rnd-under (b .args .w *ℤ b .args .p) (unit * natAbs (b .args .k)) unit (omega (arith, b .pre .k-pos))
     (omega (arith, product-holds b .size, b .pre .k-pos))) tt
 
@@ -65,4 +65,11 @@ unfolding rule.stage
 returns c = sub (lit unit tt) (quotient-holds c) tt .value
 
 pub stage-spec : {M : Type 1} → statement M
-stage-spec = tie.close (tie.spec mul-rnd-short-quotient mul-rnd-short-quotient-2 rnd-short-quotient-requires sub-result returns)
+stage-spec =
+    tie.close
+    (tie.spec
+    mul-rnd-short-quotient
+    mul-rnd-short-quotient-2
+    rnd-short-quotient-requires
+    sub-result
+    returns)

@@ -1,7 +1,8 @@
 -- `star_file::reading::list_count` meets its contract.
 use mathlib.Core.Path.{_≡_, sym, ap, _∙_}
 use mathlib.Core.Bool.{false}
-use Prim.Native.Nat.{_+_, _*_, _≤_}
+use mathlib.Core.List.{List}
+use Prim.Native.Nat.{ℕ, _+_, _*_, _≤_}
 use native.Mathlib.Omega.{arith}
 use lib.ListN.{drop}
 use borrow.Author.Needs.{needs}
@@ -21,24 +22,25 @@ returns c = sym (file-refused-9 (c .before .before .before .args .file .now)
     (sym (c .before .mark-refused .ensures) ∙ c .if1 .taken))
 
 -- it is not refused 9
-marked : (c : tie.Else1) → markRefused (c .before .before .before .args .file .now) ≡ false
-marked c = sym (c .before .mark-refused .ensures) ∙ c .if1 .left
+module _ (c : tie.Else1) where
+  abbrev file : List ℕ
+  file = c .before .before .before .args .file .now
+
+  marked : markRefused file ≡ false
+  marked = sym (c .before .mark-refused .ensures) ∙ c .if1 .left
 
 two-bytes-at-requires : tie.Need-two-bytes-at-requires
-two-bytes-at-requires c κs =
-    let file = c .before .before .before .args .file .now in
-    omega (arith, headed file (marked c) .long)
+two-bytes-at-requires c κs = omega (arith, headed (file c) (marked c) .long)
 
-count-is : (c : tie.After-two-bytes-at) → c .two-bytes-at .result ≡ countIn
-    (c .before .before .before .before .args .file .now)
+count-is : (c : tie.After-two-bytes-at) → c .two-bytes-at .result ≡ countIn (file (c .before))
 unfolding countIn
 count-is c = c .two-bytes-at .ensures .0
 
 returns-2 : tie.Need-returns-2
 returns-2 c =
-    let file = c .before .before .before .before .before .args .file .now in
-    sym (file-refused-10 file (marked (c .before .before))
-    (count-many file (omega (arith, count-is (c .before), c .if2 .taken))))
+    let m = c .before .before in
+    sym (file-refused-10 (file m) (marked m)
+    (count-many (file m) (omega (arith, count-is (c .before), c .if2 .taken))))
 
 mul-if3 : tie.Need-mul-if3
 mul-if3 c = search needs
@@ -46,45 +48,56 @@ mul-if3 c = search needs
 add-if3 : tie.Need-add-if3
 add-if3 c = search needs
 
-few : (c : tie.Else2) → countIn (c .before .before .before .before .before .args .file .now) ≤ 64
-few c = omega (arith, count-is (c .before), c .if2 .left)
+-- Each later stage has `marked-of-..`, where the file is found not refused 9, reached by the stage before it.
 
-size : (c : tie.Else2) → 7 + 24 * c .before .two-bytes-at .result ≡ fileLength
-    (countIn (c .before .before .before .before .before .args .file .now))
-unfolding fileLength
-size c = ap (λ n. 7 + 24 * n) (count-is (c .before))
+module _ (c : tie.Else2) where
+  abbrev marked-of-few : tie.Else1
+  marked-of-few = c .before .before
+
+  few : countIn (file marked-of-few) ≤ 64
+  few = omega (arith, count-is (c .before), c .if2 .left)
+
+  size : 7 + 24 * c .before .two-bytes-at .result ≡ fileLength (countIn (file marked-of-few))
+  unfolding fileLength
+  size = ap (λ n. 7 + 24 * n) (count-is (c .before))
 
 returns-3 : tie.Need-returns-3
 returns-3 c =
-    let file = c .before .before .before .before .before .before .args .file .now in
-    sym (file-refused-10 file (marked (c .before .before .before))
-    (count-fails file (few (c .before)) (λ h. c .if3 .taken (h ∙ sym (size (c .before))))))
+    let m = marked-of-few (c .before) in
+    sym (file-refused-10 (file m) (marked m)
+    (count-fails (file m) (few (c .before)) (λ h. c .if3 .taken (h ∙ sym (size (c .before))))))
 
-counted : (c : tie.Else3) → countRefused (c .before .before .before .before .before .before .args .file .now) ≡ false
-counted c = count-passes (c .before .before .before .before .before .before .args .file .now) (few (c .before))
-    (c .if3 .left ∙ size (c .before))
+module _ (c : tie.Else3) where
+  abbrev marked-of-counted : tie.Else1
+  marked-of-counted = marked-of-few (c .before)
+
+  counted : countRefused (file marked-of-counted) ≡ false
+  counted = count-passes (file marked-of-counted) (few (c .before)) (c .if3 .left ∙ size (c .before))
 
 any-refused-requires : tie.Need-any-refused-requires
 any-refused-requires c κs = search needs
 
-tested : (c : tie.After-any-refused) → c .any-refused .result ≡ anyRefused
-    (stars (c .before .before .before .before .before .before .before .args .file .now))
-unfolding stars
-tested c =
-    c .any-refused .ensures
-    ∙ ap (λ n. anyRefused (starsIn n (drop 7 (c .before .before .before .before .before .before .before .args .file .now)))) (count-is (c .before .before .before))
+module _ (c : tie.After-any-refused) where
+  abbrev marked-of-tested : tie.Else1
+  marked-of-tested = marked-of-counted (c .before)
+
+  tested : c .any-refused .result ≡ anyRefused (stars (file marked-of-tested))
+  unfolding stars
+  tested =
+      c .any-refused .ensures
+      ∙ ap (λ n. anyRefused (starsIn n (drop 7 (file marked-of-tested)))) (count-is (c .before .before .before))
 
 returns-4 : tie.Need-returns-4
 returns-4 c =
-    let file = c .before .before .before .before .before .before .before .before .args .file .now in
-    sym (file-refused-5 file (marked (c .before .before .before .before .before)) (counted (c .before .before))
+    let m = marked-of-tested (c .before) in
+    sym (file-refused-5 (file m) (marked m) (counted (c .before .before))
     (sym (tested (c .before)) ∙ c .if4 .taken))
 
 returns-5 : tie.Need-returns-5
 returns-5 c =
-    let file = c .before .before .before .before .before .before .before .before .args .file .now in
+    let m = marked-of-tested (c .before) in
     ap Listed.Count (count-is (c .before .before .before .before))
-    ∙ sym (file-counted file (marked (c .before .before .before .before .before)) (counted (c .before .before))
+    ∙ sym (file-counted (file m) (marked m) (counted (c .before .before))
     (sym (tested (c .before)) ∙ c .if4 .left))
 
 pub list-count-spec : {M : Type 1} → statement M

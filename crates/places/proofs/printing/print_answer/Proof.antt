@@ -1,9 +1,9 @@
--- `places::print_answer` is safe: the night that a line comes to is fit for its stars.
+-- `places::printing::print_answer` is safe: the night that a line comes to is fit for its stars.
 use mathlib.Core.Path.{sym, _∙_}
 use borrow.Author.Needs.{needs}
 use Rattle.place_lines.specs.Entries.{night-of-begun}
-use Rattle.places.proofs.print_answer.Statement.{statement}
-use Rattle.places.proofs.print_answer.Tie as tie
+use Rattle.places.proofs.printing.print_answer.Statement.{statement}
+use Rattle.places.proofs.printing.print_answer.Tie as tie
 
 begin-requires : tie.Need-begin-requires
 begin-requires c κs = search needs

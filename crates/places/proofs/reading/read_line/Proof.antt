@@ -1,9 +1,9 @@
--- `places::read_line` is safe and ends: the turns fall.
+-- `places::reading::read_line` is safe and ends: the turns fall.
 use Prim.Native.Nat.{_≤_}
 use native.Mathlib.Omega.{arith}
 use borrow.Author.Needs.{needs}
-use Rattle.places.proofs.read_line.Statement.{statement}
-use Rattle.places.proofs.read_line.Tie as tie
+use Rattle.places.proofs.reading.read_line.Statement.{statement}
+use Rattle.places.proofs.reading.read_line.Tie as tie
 
 abbrev Inv-loop : tie.InvT-loop
 Inv-loop line₀ turns₀ line turns = (turns ≤ 65) × (line .len ≤ 64)

@@ -1,9 +1,9 @@
--- `places::print_entries` is safe and ends: the entries left fall.
+-- `places::printing::print_entries` is safe and ends: the entries left fall.
 use Prim.Native.Nat.{_-_, _≤_}
 use native.Mathlib.Omega.{arith}
 use borrow.Author.Needs.{needs}
-use Rattle.places.proofs.print_entries.Statement.{statement}
-use Rattle.places.proofs.print_entries.Tie as tie
+use Rattle.places.proofs.printing.print_entries.Statement.{statement}
+use Rattle.places.proofs.printing.print_entries.Tie as tie
 
 abbrev Inv-loop : tie.InvT-loop
 Inv-loop file count night people i₀ i = i ≤ count

@@ -1,4 +1,4 @@
--- `places::print_refused` is safe: a number has at most 20 bytes, so the end has a place in the room.
+-- `places::printing::print_refused` is safe: a number has at most 20 bytes, so the end has a place in the room.
 use mathlib.Core.Path.{_≡_, sym, ap, _∙_}
 use mathlib.Core.List.{List, _++_}
 use Prim.Native.Nat.{ℕ, _+_, _≤_}
@@ -14,8 +14,8 @@ use Rattle.words.specs.Fits.{size64}
 use Rattle.rules.specs.Times.{decimal}
 use Rattle.laws.specs.Times.{refusedText}
 use Rattle.entry_lines.specs.Lengths.{number-le}
-use Rattle.places.proofs.print_refused.Statement.{statement}
-use Rattle.places.proofs.print_refused.Tie as tie
+use Rattle.places.proofs.printing.print_refused.Statement.{statement}
+use Rattle.places.proofs.printing.print_refused.Tie as tie
 
 slice-aggregate-put-refused : tie.Need-slice-aggregate-put-refused
 slice-aggregate-put-refused c = search needs
@@ -38,8 +38,7 @@ module _ (c : tie.After-put-refused) where
       omega (
         arith,
         rw (toZ-ofZ (start .fits .number)) at (c .put-refused .ensures .0),
-        refused-le
-            (start .args .number) (start .fits .number),
+        refused-le (start .args .number) (start .fits .number),
       )
 
   inside : c .put-refused .result + 1 ≤ length (set (c .put-refused .last .1 .0) (c .put-refused .result) 10)

@@ -1,4 +1,4 @@
--- `places::print_entry` is safe: a line is at most 125 bytes long, so its end has a place in the room.
+-- `places::printing::print_entry` is safe: a line is at most 125 bytes long, so its end has a place in the room.
 use mathlib.Core.Path.{_≡_, sym, ap, _∙_}
 use mathlib.Core.List.{List}
 use Prim.Native.Nat.{ℕ, _+_, _≤_}
@@ -8,8 +8,8 @@ use lib.Seq.{sets, length-sets, length-take-le}
 use borrow.Author.Needs.{needs}
 use Rattle.place_lines.specs.Answers.{answerLine}
 use Rattle.place_lines.specs.Lengths.{answer-le}
-use Rattle.places.proofs.print_entry.Statement.{statement}
-use Rattle.places.proofs.print_entry.Tie as tie
+use Rattle.places.proofs.printing.print_entry.Statement.{statement}
+use Rattle.places.proofs.printing.print_entry.Tie as tie
 
 slice-aggregate-print-entry : tie.Need-slice-aggregate-print-entry
 slice-aggregate-print-entry c = search needs
