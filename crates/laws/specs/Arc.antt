@@ -8,7 +8,7 @@ use lib.Dec.{T, lit<, lit≤}
 use lib.IntN.{ℤ, pos, negℤ, natAbs, _-ℤ_, _*ℤ_}
 use Rattle.integers.specs.Size.{abs-neg}
 use Rattle.integers.specs.Ring.{ring, v0, v1, v2, _⊖_, _⊗_, neg, lit}
-use Rattle.integers.specs.Polynomial.{numerator, denominator}
+use Rattle.integers.specs.SeriesSteps.{numerator, denominator}
 use Rattle.rules.specs.Units.{unit}
 use Rattle.rules.specs.Rounding.{rnd, rndSize}
 use Rattle.rules.specs.Circle.{squareParts}

@@ -10,7 +10,7 @@ use native.Mathlib.Omega.{arith}
 use lib.Dec.{T, leb, ltb, leb→le, ltb→lt, lit≤}
 use lib.IntN.{ℤ, pos, negsuc, natAbs, _-ℤ_, _*ℤ_}
 use Rattle.integers.specs.Difference.{pos-sub}
-use Rattle.integers.specs.Polynomial.{Step, step, numerator, denominator}
+use Rattle.integers.specs.SeriesSteps.{Step, step, numerator, denominator}
 use Rattle.rules.specs.Units.{unit}
 use Rattle.rules.specs.Rounding.{rnd, rndSize}
 use Rattle.rules.specs.Circle.{stage, stages}

@@ -9,7 +9,7 @@ use lib.Dec.{T, lit<, lit≤}
 use lib.IntN.{ℤ, pos, natAbs, _-ℤ_, _*ℤ_}
 use Rattle.integers.specs.Size.{abs-mul, abs-sub}
 use Rattle.integers.specs.Ring.{ring, v0, v1, v2, _⊖_, _⊗_, lit}
-use Rattle.integers.specs.Polynomial.{numerator, denominator}
+use Rattle.integers.specs.SeriesSteps.{numerator, denominator}
 use Rattle.rules.specs.Units.{unit}
 use Rattle.rules.specs.Rounding.{rndSize}
 use Rattle.rules.specs.Circle.{squareParts, stages, sineRow, cosineRow, rawSine, rawCosine}

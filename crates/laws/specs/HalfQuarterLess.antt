@@ -9,9 +9,10 @@ use lib.Dec.{lit<, lit≤}
 use lib.ListN.{length}
 use lib.IntN.{ℤ, pos, negsuc, negℤ, natAbs, _+ℤ_, _-ℤ_, _*ℤ_}
 use Rattle.integers.specs.Ring.{ring, v0, v1, v2, v3, v4, v5, v6, _⊕_, _⊖_, _⊗_, neg, lit}
-use Rattle.integers.specs.Polynomial.{plus, scale, times, power, valueAt, sizeAt, degree, length-coefficients}
-use Rattle.integers.specs.Polynomial.{length-times, value-plus, value-scale, value-shift, value-times, raise, value-le}
-use Rattle.integers.specs.Polynomial.{power-mul}
+use Rattle.integers.specs.Power.{power, power-mul}
+use Rattle.integers.specs.Polynomial.{plus, scale, times, valueAt, sizeAt, length-times, value-plus, value-scale}
+use Rattle.integers.specs.Polynomial.{value-shift, value-times, raise, value-le}
+use Rattle.integers.specs.SeriesSteps.{degree, length-coefficients}
 use Rattle.rules.specs.Units.{unit}
 use Rattle.rules.specs.Series.{whole, sineSeries, cosineSeries}
 use Rattle.laws.specs.Series.{sineSteps, cosineSteps, sineList, cosineList, whole-power, sine-is, cosine-is}
