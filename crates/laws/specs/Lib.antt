@@ -51,8 +51,10 @@ pub mod Checks
 pub mod Rows
 pub mod Calendar
 pub mod DayNumbers
+pub mod DayAndDate
 pub mod Found
 pub mod Seconds
+pub mod TimeOfDay
 pub mod Dates
 pub mod Instants
 pub mod Parts
