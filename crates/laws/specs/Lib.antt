@@ -3,6 +3,7 @@
 pub mod Refusals
 pub mod Units
 pub mod Rounding
+pub mod Nearest
 pub mod Product
 pub mod Root
 pub mod Modulo
