@@ -61,6 +61,7 @@ pub mod Dates
 pub mod Instants
 pub mod Parts
 pub mod Bytes
+pub mod FileParts
 pub mod ByteByByte
 pub mod Records
 pub mod FileLength
@@ -72,5 +73,6 @@ pub mod RoundTrip
 -- lines of `times`
 pub mod Lines
 pub mod Decimal
+pub mod Room
 pub mod Times
 pub mod Sample
