@@ -16,7 +16,8 @@ use Rattle.rules.specs.Rounding.{rnd, rndSize}
 use Rattle.rules.specs.Circle.{stage, stages}
 use Rattle.rules.specs.Reading.{arcStage, arcStages}
 use Rattle.laws.specs.Rounding.{rnd-pos, rndSize-under}
-use Rattle.laws.specs.Near.{Near, UpTo, upTo-pos, upTo-of-le, upTo-le, near-product, near-less}
+use Rattle.laws.specs.UpTo.{UpTo, upTo-pos, upTo-of-le, upTo-le}
+use Rattle.laws.specs.Near.{Near, near-product, near-less}
 
 -- what is worked for the step (j, k): Rnd(2^30 / j) − Rnd(w p / (2^30 k))
 unfoldable pub worked : ℤ → List Step → ℤ → ℤ

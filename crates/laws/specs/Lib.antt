@@ -11,11 +11,13 @@ pub mod Modulo
 pub mod Directions
 pub mod LengthNear
 pub mod Length
--- sine and cosine: nearness, the series, the pair, the laws of angles
+-- sine and cosine: ranges and nearness, the series, the pair, the laws of angles
+pub mod UpTo
 pub mod Near
 pub mod Chain
 pub mod Series
 pub mod Circle
+pub mod Quarters
 pub mod Folding
 pub mod CircleSquares
 pub mod CircleLength
@@ -27,9 +29,11 @@ pub mod Arc
 pub mod Certificates
 pub mod ArcSeries
 pub mod HalfQuarterLess
+pub mod AdditionFormulas
 pub mod ReadingRange
 pub mod Heights
 pub mod ReadingParts
+pub mod Across
 pub mod Octant
 pub mod Reading
 -- turns, and the angles of an instant
