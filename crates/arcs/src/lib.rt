@@ -10,7 +10,7 @@ ghost use lib.IntN.{ℤ, pos, natAbs};
 ghost use Rattle.rules.specs.Units.{unit};
 ghost use Rattle.rules.specs.Rounding.{rnd};
 ghost use Rattle.rules.specs.Reading as rule;
-ghost use Rattle.laws.specs.Near.{UpTo};
+ghost use Rattle.laws.specs.UpTo.{UpTo};
 ghost use Rattle.laws.specs.Arc.{threeSevenths};
 ghost use Rattle.series.specs.Given.{StageGiven};
 

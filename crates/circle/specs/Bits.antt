@@ -3,7 +3,7 @@ use mathlib.Core.Path.{_≡_, refl}
 use Prim.Native.Nat.{ℕ}
 use native.Mathlib.Omega.{arith}
 use lib.IntN.{ℤ, pos, negsuc, natAbs}
-use Rattle.laws.specs.Near.{UpTo}
+use Rattle.laws.specs.UpTo.{UpTo}
 use Rattle.words.specs.Holds.{bits}
 
 pub size-of-bits : (z : ℤ) (b : ℕ) → UpTo z b → bits z ≡ natAbs z

@@ -3,7 +3,7 @@ use Prim.Native.Nat.{_≤_}
 use lib.IntN.{ℤ, natAbs}
 use Rattle.rules.specs.Units.{unit}
 use Rattle.rules.specs.declared.Pair.{Pair}
-use Rattle.laws.specs.Near.{UpTo}
+use Rattle.laws.specs.UpTo.{UpTo}
 
 -- a pair that is turned to its quarter: no part is above a whole
 pub record QuarterGiven (q : ℤ) (p : Pair) : Type 0 where

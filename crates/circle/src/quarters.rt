@@ -9,7 +9,7 @@ ghost use Prim.Native.Nat.{ℕ};
 ghost use lib.IntN.{ℤ, natAbs};
 ghost use Rattle.rules.specs.Units.{quarter, halfQuarter};
 ghost use Rattle.rules.specs.Circle as rule;
-ghost use Rattle.laws.specs.Near.{UpTo};
+ghost use Rattle.laws.specs.UpTo.{UpTo};
 ghost use Rattle.circle.specs.Given.{QuarterGiven};
 
 // Both parts at half a quarter.

@@ -52,7 +52,8 @@ pub sub-is : (x y : ℤ) → IsDifference (x -ℤ y) (posPart x + negPart y) (ne
 sub-is x y = omega (arith, add-is x (negℤ y), posPart-neg y, negPart-neg y)
 
 pub mul-is : (x y : ℤ)
-    → IsDifference (x *ℤ y) (posPart x * posPart y + negPart x * negPart y) (posPart x * negPart y + negPart x * posPart y)
+    → IsDifference (x *ℤ y)
+    (posPart x * posPart y + negPart x * negPart y) (posPart x * negPart y + negPart x * posPart y)
 mul-is (pos a) (pos b) = omega arith
 mul-is (pos a) (negsuc b) = omega (arith, posPart-neg (pos (a * suc b)), negPart-neg (pos (a * suc b)))
 mul-is (negsuc a) (pos b) = omega (arith, posPart-neg (pos (suc a * b)), negPart-neg (pos (suc a * b)))

@@ -11,7 +11,8 @@ use Rattle.integers.specs.Size.{abs-le}
 use Rattle.integers.specs.Sign.{odd, by-sign}
 use Rattle.integers.specs.Ring.{ring, bounded, v0, v1, lit, square, _⊕_, _⊖_, _⊗_}
 use Rattle.integers.specs.Order.{Nonneg, both, none, part, certify}
-use Rattle.integers.specs.Polynomial.{power, valueAt, sizeAt, value-le}
+use Rattle.integers.specs.Power.{power}
+use Rattle.integers.specs.Polynomial.{valueAt, sizeAt, value-le}
 
 -- `less`: an identity of two variables, compared by `omega` (`mul-assoc` and `mul-add` go the same way)
 difference-of-squares : (x y : ℤ) → (x +ℤ y) *ℤ (x -ℤ y) ≡ x *ℤ x -ℤ y *ℤ y

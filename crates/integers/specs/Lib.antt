@@ -8,13 +8,17 @@ pub mod Size
 pub mod Quotient
 -- laws of every sign from those of naturals
 pub mod Sign
--- identities by computing: `ring`; a bound of one variable: `bounded`
+-- polynomials in several variables, as nested coefficients; identities by computing them: `ring`; a bound of one
+-- variable: `bounded`
+pub mod Coefficients
 pub mod Ring
 -- the order, and orders by certificate: `certify`
 pub mod Order
 -- squares: order back, Cauchy and Schwarz, Minkowski
 pub mod Square
--- polynomials as lists: P1 to P4 of the blueprint
+-- powers; polynomials as lists: P1 to P3 of the blueprint; a series worked in steps is one: P4
+pub mod Power
 pub mod Polynomial
+pub mod SeriesSteps
 -- one of each
 pub mod Examples

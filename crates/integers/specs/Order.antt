@@ -3,14 +3,15 @@
 -- products, and `ring` checks that the sum is g.
 use mathlib.Core.Path.{_≡_, refl, sym, subst}
 use mathlib.Core.List.{List, [], _∷_}
-use Prim.Native.Nat.{ℕ, zero, suc, _+_, _*_, _≤_}
+use Prim.Native.Nat.{ℕ, zero, suc, _+_, _≤_}
 use native.Mathlib.Omega.{arith}
 use lib.Dec.{T, leb→le, le→leb}
 use lib.IntN.{ℤ, pos, negsuc, negℤ, natAbs, _+ℤ_, _-ℤ_, _*ℤ_}
 use lib.Signed.{nonNeg, _≤ℤ_}
 use Rattle.integers.specs.Difference.{posPart, negPart, posPart-neg, negPart-neg, add-is, sub-is, eq-of-parts}
 use Rattle.integers.specs.Size.{abs-le}
-use Rattle.integers.specs.Ring.{Term, lit, _⊕_, _⊖_, _⊗_, v0, v1, v2, value, normal, isNought, ring}
+use Rattle.integers.specs.Coefficients.{isNought}
+use Rattle.integers.specs.Ring.{Term, lit, _⊕_, _⊖_, _⊗_, v0, v1, v2, value, normal, ring}
 
 -- ---- not negative
 

@@ -1,17 +1,17 @@
 -- Polynomials as lists of whole coefficients, constant first, and their values at a fraction z / o, over a power of o
--- (blueprint, toolkit B). `value-sum`, `value-scale`, `value-shift`, `raise`: P1. `value-product`: P2. `value-le`: P3,
--- a bound by computing. `numerator-is`, `denominator-is`: P4, a series worked in steps is a list of coefficients.
+-- (blueprint, toolkit B). `value-plus`, `value-scale`, `value-shift`, `raise`: P1. `value-times`: P2. `value-le`: P3,
+-- a bound by computing.
 -- Keep z and o variables where these are cited, and never unfold a power.
 use mathlib.Core.Path.{_≡_, refl, sym, ap}
 use mathlib.Core.List.{List, [], _∷_}
 use Prim.Native.Nat.{ℕ, zero, suc, _+_, _*_, _-_, _/_, _≤_, _<_}
-use native.Mathlib.Nat.{mul-le-mul, mul-le-mul-right, mul-pos, lt-div-mul-add, zero-add, suc-add, le-of-mul-le-mul-left}
+use native.Mathlib.Nat.{mul-le-mul, mul-le-mul-right, lt-div-mul-add, zero-add, suc-add, le-of-mul-le-mul-left}
 use native.Mathlib.Omega.{arith}
-use lib.Dec.{lit<}
 use lib.ListN.{length}
-use lib.IntN.{ℤ, pos, negℤ, natAbs, _+ℤ_, _-ℤ_, _*ℤ_, +ℤ-idl, +ℤ-idr, *ℤ-zero, zero-*ℤ}
-use Rattle.integers.specs.Ring.{ring, v0, v1, v2, v3, v4, v5, v6, v7, _⊕_, _⊖_, _⊗_, neg, lit}
+use lib.IntN.{ℤ, pos, natAbs, _+ℤ_, _*ℤ_, +ℤ-idl, +ℤ-idr, *ℤ-zero, zero-*ℤ}
+use Rattle.integers.specs.Ring.{ring, v0, v1, v2, v3, v4, v5, _⊕_, _⊗_, lit}
 use Rattle.integers.specs.Size.{abs-add, abs-mul}
+use Rattle.integers.specs.Power.{power}
 
 -- ---- sums, multiples, products
 
@@ -28,11 +28,6 @@ unfoldable pub times : List ℤ → List ℤ → List ℤ
 times [] q = []
 times (a ∷ p) q = plus (scale a q) (pos 0 ∷ times p q)
 
--- o to the e: a definition of its own, so that a large power stays shut
-unfoldable pub power : ℕ → ℕ → ℕ
-power o zero = 1
-power o (suc e) = o * power o e
-
 -- the value at z / o, times o to the e: c o^e + c′ z o^(e − 1) + ..
 unfoldable pub valueAt : ℤ → ℕ → ℕ → List ℤ → ℤ
 valueAt z o e [] = pos 0
@@ -43,66 +38,6 @@ valueAt z o (suc e) (c ∷ g) = c *ℤ pos (power o (suc e)) +ℤ z *ℤ valueAt
 unfoldable pub sizeAt : ℕ → ℕ → List ℤ → ℕ
 sizeAt u v [] = 0
 sizeAt u v (c ∷ g) = natAbs c + (u * sizeAt u v g + (v - 1)) / v
-
--- ---- a series worked in steps: the step (j, k) makes 1 / j − (z / k) p of p
-
-pub data Step : Type 0 where
-  step : ℕ → ℕ → Step
-
--- as a fraction: n / d at z / o becomes (k o d − j z n) / (j k o d)
-unfoldable pub denominator : ℕ → List Step → ℕ → ℕ
-denominator o [] d = d
-denominator o (step j k ∷ l) d = denominator o l (j * (k * (o * d)))
-
-unfoldable pub numerator : ℤ → ℕ → List Step → ℤ → ℕ → ℤ
-numerator z o [] n d = n
-numerator z o (step j k ∷ l) n d = numerator z o l (pos (k * (o * d)) -ℤ pos j *ℤ (z *ℤ n)) (j * (k * (o * d)))
-
--- as coefficients, with the polynomial q / s in the place of z: the list, its scale, and the power of o it is over
-unfoldable pub coefficients : List Step → List ℤ → ℕ → List ℤ → ℕ → List ℤ
-coefficients [] q s g c = g
-coefficients (step j k ∷ l) q s g c =
-    coefficients l q s (plus (pos (k * (s * c)) ∷ []) (scale (negℤ (pos j)) (times q g))) (j * (k * (s * c)))
-
-unfoldable pub scaleOf : List Step → ℕ → ℕ → ℕ
-scaleOf [] s c = c
-scaleOf (step j k ∷ l) s c = scaleOf l s (j * (k * (s * c)))
-
-unfoldable pub degree : ℕ → List Step → ℕ → ℕ
-degree m [] e = e
-degree m (step j k ∷ l) e = degree m l (m + e)
-
--- ---- powers
-
-pub power-add : (o m e : ℕ) → power o (m + e) ≡ power o m * power o e
-unfolding power
-power-add o zero e = rw (zero-add e) (omega arith)
-power-add o (suc m) e = rw (suc-add m e, power-add o m e) (omega arith)
-
-pub power-mul : (a b e : ℕ) → power (a * b) e ≡ power a e * power b e
-unfolding power
-power-mul a b zero = refl
-power-mul a b (suc e) = rw (power-mul a b e) (omega arith)
-
-pub power-suc : (o e : ℕ) → power o (suc e) ≡ o * power o e
-unfolding power
-power-suc o e = refl
-
-pub power-power : (o m n : ℕ) → power (power o m) n ≡ power o (n * m)
-unfolding power
-power-power o m zero = rw (none m)
-  where
-    none : (m : ℕ) → zero * m ≡ 0
-    none m = omega arith
-power-power o m (suc n) = rw (power-power o m n, more n m) (sym (power-add o m (n * m)))
-  where
-    more : (n m : ℕ) → suc n * m ≡ m + n * m
-    more n m = omega arith
-
-pub power-pos : (o e : ℕ) → 0 < o → 0 < power o e
-unfolding power
-power-pos o zero h = lit< tt
-power-pos o (suc e) h = mul-pos h (power-pos o e h)
 
 -- ---- lengths
 
@@ -240,54 +175,3 @@ module _ (z : ℤ) (o : ℕ) where
           let r = (u * m + (v - 1)) / v in
           let c : u * m ≤ v * r = omega (arith, lt-div-mul-add {a = u * m + (v - 1)} {b = v} hv) in
           le-of-mul-le-mul-left {k = v} (omega (arith, mul-le-mul h k, mul-le-mul-right (o * w) c)) hv
-
-  -- ---- P4
-
-  next : (q g : List ℤ) (m e s c j k : ℕ) → length q ≤ suc m → length g ≤ suc e
-      → pos (k * (s * power o m * (c * power o e))) -ℤ pos j *ℤ (valueAt z o m q *ℤ valueAt z o e g)
-      ≡ valueAt z o (m + e) (plus (pos (k * (s * c)) ∷ []) (scale (negℤ (pos j)) (times q g)))
-  next q g m e s c j k hq hg =
-      rw (
-        value-plus (m + e) (pos (k * (s * c)) ∷ []) (scale (negℤ (pos j)) (times q g)),
-        value-constant (m + e) (pos (k * (s * c))),
-        value-scale (m + e) (negℤ (pos j)) (times q g),
-        value-times m e q g hq hg,
-        power-add o m e,
-      )
-      (ring (pos k ∷ pos s ∷ pos c ∷ pos j ∷ pos (power o m) ∷ pos (power o e) ∷ valueAt z o m q ∷ valueAt z o e g ∷ [])
-      (v0 ⊗ (v1 ⊗ v4 ⊗ (v2 ⊗ v5)) ⊖ v3 ⊗ (v6 ⊗ v7)) (v0 ⊗ (v1 ⊗ v2) ⊗ (v4 ⊗ v5) ⊕ neg v3 ⊗ (v6 ⊗ v7)) tt)
-
-  next-denominator : (m e s c j k : ℕ)
-      → j * (k * (s * power o m * (c * power o e))) ≡ j * (k * (s * c)) * power o (m + e)
-  next-denominator m e s c j k = rw (power-add o m e) (omega arith)
-
-  pub numerator-is : (q : List ℤ) (m s : ℕ) → length q ≤ suc m
-      → (l : List Step) (g : List ℤ) (e c : ℕ) → length g ≤ suc e
-      → numerator (valueAt z o m q) (s * power o m) l (valueAt z o e g) (c * power o e)
-      ≡ valueAt z o (degree m l e) (coefficients l q s g c)
-  unfolding numerator coefficients degree
-  numerator-is q m s hq [] g e c hg = refl
-  numerator-is q m s hq (step j k ∷ l) g e c hg =
-      let more = plus (pos (k * (s * c)) ∷ []) (scale (negℤ (pos j)) (times q g)) in
-      rw (next q g m e s c j k hq hg, next-denominator m e s c j k)
-      (numerator-is q m s hq l more (m + e) (j * (k * (s * c)))
-      (length-plus (pos (k * (s * c)) ∷ []) (scale (negℤ (pos j)) (times q g)) (suc (m + e)) (omega arith)
-      (omega (arith, length-scale (negℤ (pos j)) (times q g), length-times q g m e hq hg))))
-
-  pub denominator-is : (m s : ℕ) (l : List Step) (e c : ℕ)
-      → denominator (s * power o m) l (c * power o e) ≡ scaleOf l s c * power o (degree m l e)
-  unfolding denominator scaleOf degree
-  denominator-is m s [] e c = refl
-  denominator-is m s (step j k ∷ l) e c =
-      rw (next-denominator m e s c j k) (denominator-is m s l (m + e) (j * (k * (s * c))))
-
-pub length-coefficients : (q : List ℤ) (m s : ℕ) → length q ≤ suc m
-    → (l : List Step) (g : List ℤ) (e c : ℕ) → length g ≤ suc e
-    → length (coefficients l q s g c) ≤ suc (degree m l e)
-unfolding coefficients degree
-length-coefficients q m s hq [] g e c hg = hg
-length-coefficients q m s hq (step j k ∷ l) g e c hg =
-    let more = plus (pos (k * (s * c)) ∷ []) (scale (negℤ (pos j)) (times q g)) in
-    length-coefficients q m s hq l more (m + e) (j * (k * (s * c)))
-    (length-plus (pos (k * (s * c)) ∷ []) (scale (negℤ (pos j)) (times q g)) (suc (m + e)) (omega arith)
-    (omega (arith, length-scale (negℤ (pos j)) (times q g), length-times q g m e hq hg)))

@@ -16,11 +16,12 @@ use Rattle.rules.specs.Turning.{Accepted}
 use Rattle.rules.specs.Circle.{radianParts, squareParts, stage, stages, rawSine, rawCosine, pairOfParts, pairToHalf}
 use Rattle.rules.specs.Circle.{exchangedPair, pairToQuarter, inQuarter, folded, pair}
 use Rattle.rules.specs.Series.{whole, radian, seriesToHalf, series}
-use Rattle.laws.specs.Near.{upTo-le}
+use Rattle.laws.specs.UpTo.{upTo-le}
 use Rattle.laws.specs.CircleLength.{cosine-range, sine-range, pairOfParts-accepted}
 use Rattle.laws.specs.CircleToHalf.{WithinFour, pairToHalf-near, pairToHalf-is, radianParts-range}
-use Rattle.laws.specs.Folding.{to-quarter, folded-related, Place, place, folded-at, folded-place, lower-half}
-use Rattle.laws.specs.Folding.{folded-circle, folded-quarter, folded-opposite}
+use Rattle.laws.specs.Quarters.{Place, place}
+use Rattle.laws.specs.Folding.{to-quarter, folded-related, folded-at, folded-place, lower-half, folded-circle}
+use Rattle.laws.specs.Folding.{folded-quarter, folded-opposite}
 
 -- ---- near the series
 

@@ -8,14 +8,14 @@ use lib.Dec.{T, lit<, lit≤}
 use lib.IntN.{ℤ, pos, negℤ, natAbs, _-ℤ_, _*ℤ_}
 use Rattle.integers.specs.Size.{abs-neg}
 use Rattle.integers.specs.Ring.{ring, v0, v1, v2, _⊖_, _⊗_, neg, lit}
-use Rattle.integers.specs.Polynomial.{numerator, denominator}
+use Rattle.integers.specs.SeriesSteps.{numerator, denominator}
 use Rattle.rules.specs.Units.{unit}
 use Rattle.rules.specs.Rounding.{rnd, rndSize}
 use Rattle.rules.specs.Circle.{squareParts}
 use Rattle.rules.specs.Reading.{arcStages, arcRow, arc}
 use Rattle.laws.specs.Rounding.{rnd-near, rnd-pos, rndSize-le, rndSize-under}
-use Rattle.laws.specs.Near.{Near, UpTo, upTo-pos, upTo-le, upTo-product, near-product-one, near-le}
-use Rattle.laws.specs.Near.{near-of-le, upTo-of-le}
+use Rattle.laws.specs.UpTo.{UpTo, upTo-pos, upTo-le, upTo-product, upTo-of-le}
+use Rattle.laws.specs.Near.{Near, near-product-one, near-le, near-of-le}
 use Rattle.laws.specs.Chain.{error, firstError, rises, Worked, chain, arcSteps, arcStages-worked}
 use Rattle.laws.specs.Chain.{worked-range}
 use Rattle.laws.specs.Circle.{halfQuarterParts, square-range}

@@ -10,9 +10,10 @@ use lib.ListN.{length}
 use lib.IntN.{ℤ, pos, negsuc, natAbs, _+ℤ_, _-ℤ_, _*ℤ_}
 use Rattle.integers.specs.Size.{abs-mul}
 use Rattle.integers.specs.Ring.{ring, v0, v1, v2, v3, v4, v5, _⊕_, _⊖_, _⊗_, lit}
-use Rattle.integers.specs.Polynomial.{scale, times, power, valueAt, sizeAt, numerator, denominator, degree}
-use Rattle.integers.specs.Polynomial.{length-coefficients, length-times, value-plus, value-scale, value-shift}
-use Rattle.integers.specs.Polynomial.{value-times, raises, value-le, power-add, power-suc, power-mul, power-power}
+use Rattle.integers.specs.Power.{power, power-add, power-suc, power-mul, power-power}
+use Rattle.integers.specs.Polynomial.{scale, times, valueAt, sizeAt, length-times, value-plus, value-scale, value-shift}
+use Rattle.integers.specs.Polynomial.{value-times, raises, value-le}
+use Rattle.integers.specs.SeriesSteps.{numerator, denominator, degree, length-coefficients}
 use Rattle.rules.specs.Units.{unit}
 use Rattle.rules.specs.Reading.{arcRow}
 use Rattle.rules.specs.Series.{whole, sineSeries, cosineSeries}

@@ -14,8 +14,8 @@ use borrow.Author.Tests.{ltb-true, ltb-false}
 use Rattle.integers.specs.Difference.{posPart, negPart, eq-of-parts, add-is, mul-is}
 use Rattle.rules.specs.Rounding.{modulo}
 use Rattle.rules.specs.Bytes.{bytesOf, signedOf, unsignedOf, unsignedAt, signedAt, signedBytes}
-use Rattle.laws.specs.Bytes.{Bytes, OfWidth, signed-low, signed-high, part-lt, unsigned-cons, unsigned-none}
-use Rattle.laws.specs.Bytes.{signedAt-width}
+use Rattle.laws.specs.Bytes.{Bytes, OfWidth, signed-low, signed-high}
+use Rattle.laws.specs.FileParts.{part-lt, unsigned-cons, unsigned-none, signedAt-width}
 
 -- ---- a byte at a time
 

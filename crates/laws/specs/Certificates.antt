@@ -5,7 +5,9 @@ use mathlib.Core.List.{List, [], _∷_}
 use Prim.Native.Nat.{ℕ, _*_, _≤_}
 use lib.Dec.{leb→le}
 use lib.IntN.{ℤ, pos, negsuc, negℤ}
-use Rattle.integers.specs.Polynomial.{plus, scale, times, power, sizeAt, coefficients, scaleOf}
+use Rattle.integers.specs.Power.{power}
+use Rattle.integers.specs.Polynomial.{plus, scale, times, sizeAt}
+use Rattle.integers.specs.SeriesSteps.{coefficients, scaleOf}
 use Rattle.rules.specs.Units.{unit}
 use Rattle.rules.specs.Reading.{arcRow}
 use Rattle.laws.specs.Chain.{arcSteps}

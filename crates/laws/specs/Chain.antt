@@ -10,13 +10,14 @@ use native.Mathlib.Omega.{arith}
 use lib.Dec.{T, leb, ltb, leb→le, ltb→lt, lit≤}
 use lib.IntN.{ℤ, pos, negsuc, natAbs, _-ℤ_, _*ℤ_}
 use Rattle.integers.specs.Difference.{pos-sub}
-use Rattle.integers.specs.Polynomial.{Step, step, numerator, denominator}
+use Rattle.integers.specs.SeriesSteps.{Step, step, numerator, denominator}
 use Rattle.rules.specs.Units.{unit}
 use Rattle.rules.specs.Rounding.{rnd, rndSize}
 use Rattle.rules.specs.Circle.{stage, stages}
 use Rattle.rules.specs.Reading.{arcStage, arcStages}
 use Rattle.laws.specs.Rounding.{rnd-pos, rndSize-under}
-use Rattle.laws.specs.Near.{Near, UpTo, upTo-pos, upTo-of-le, upTo-le, near-product, near-less}
+use Rattle.laws.specs.UpTo.{UpTo, upTo-pos, upTo-of-le, upTo-le}
+use Rattle.laws.specs.Near.{Near, near-product, near-less}
 
 -- what is worked for the step (j, k): Rnd(2^30 / j) − Rnd(w p / (2^30 k))
 unfoldable pub worked : ℤ → List Step → ℤ → ℤ

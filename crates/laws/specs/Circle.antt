@@ -9,12 +9,13 @@ use lib.Dec.{T, lit<, lit≤}
 use lib.IntN.{ℤ, pos, natAbs, _-ℤ_, _*ℤ_}
 use Rattle.integers.specs.Size.{abs-mul, abs-sub}
 use Rattle.integers.specs.Ring.{ring, v0, v1, v2, _⊖_, _⊗_, lit}
-use Rattle.integers.specs.Polynomial.{numerator, denominator}
+use Rattle.integers.specs.SeriesSteps.{numerator, denominator}
 use Rattle.rules.specs.Units.{unit}
 use Rattle.rules.specs.Rounding.{rndSize}
 use Rattle.rules.specs.Circle.{squareParts, stages, sineRow, cosineRow, rawSine, rawCosine}
 use Rattle.rules.specs.Series.{whole, sineSeries, cosineSeries}
-use Rattle.laws.specs.Near.{Near, UpTo, upTo-pos, upTo-le, upTo-product, near-product-one, near-scale}
+use Rattle.laws.specs.UpTo.{UpTo, upTo-pos, upTo-le, upTo-product}
+use Rattle.laws.specs.Near.{Near, near-product-one, near-scale}
 use Rattle.laws.specs.Chain.{error, firstError, rises, circleSteps, stages-worked, worked-range, chain, Worked}
 use Rattle.laws.specs.Series.{sineSteps, cosineSteps, sine-by-steps, cosine-by-steps, sine-whole, cosine-whole}
 

@@ -20,7 +20,8 @@ use Rattle.rules.specs.Circle.{squareParts, stage, stages, rawSine, rawCosine, 
 use Rattle.rules.specs.Series.{whole, sineSeries, cosineSeries}
 use Rattle.laws.specs.Root.{root-root, root-ge, root-lt}
 use Rattle.laws.specs.Length.{partTo-near, le-root, pairToLength-accepted}
-use Rattle.laws.specs.Near.{Near, UpTo, upTo-pos, upTo-is, upTo-le, upTo-product}
+use Rattle.laws.specs.UpTo.{UpTo, upTo-pos, upTo-is, upTo-le, upTo-product}
+use Rattle.laws.specs.Near.{Near}
 use Rattle.laws.specs.Chain.{circleSteps, worked-range, stages-worked}
 use Rattle.laws.specs.Circle.{halfQuarterParts, unit-upTo, square-range, rawSine-range, rawCosine-range}
 use Rattle.laws.specs.Circle.{rawSine-near, rawCosine-near, errors-exact}

@@ -11,7 +11,8 @@ use Rattle.integers.specs.Size.{abs-add, abs-sub, abs-mul}
 use Rattle.integers.specs.Ring.{ring, bounded, Term, v0, v1, v2, v3, v4, v5, _⊕_, _⊖_, _⊗_, lit}
 use Rattle.rules.specs.Units.{unit}
 use Rattle.rules.specs.Series.{factorial, power, term, whole, sineSeries, cosineSeries}
-use Rattle.laws.specs.Near.{Near, UpTo, upTo-le}
+use Rattle.laws.specs.UpTo.{UpTo, upTo-le}
+use Rattle.laws.specs.Near.{Near}
 use Rattle.laws.specs.Series.{sineTerm, cosineTerm}
 use Rattle.laws.specs.Circle.{halfQuarterParts}
 

@@ -18,7 +18,8 @@ use Rattle.rules.specs.Circle.{radianParts, squareParts, stage, stages, rawSine
 use Rattle.rules.specs.Circle.{pairToHalf}
 use Rattle.rules.specs.Series.{whole, sineSeries, cosineSeries, pi, radian, seriesToHalf}
 use Rattle.laws.specs.Rounding.{rnd-near}
-use Rattle.laws.specs.Near.{Near, UpTo, upTo-pos, upTo-product, near-moved}
+use Rattle.laws.specs.UpTo.{UpTo, upTo-pos, upTo-product}
+use Rattle.laws.specs.Near.{Near, near-moved}
 use Rattle.laws.specs.Circle.{halfQuarterParts, sineError, cosineError, rawSine-near, rawCosine-near}
 use Rattle.laws.specs.Circle.{errors-angle}
 use Rattle.laws.specs.CircleLength.{lengthOf, length-near-unit, lengthOf-pos, cosine-moved, sine-moved}

@@ -1,18 +1,16 @@
--- Decimal digits: as many as a number has, put into a room from the last to the first, and that they are the rule's
--- `decimal`.
+-- Decimal digits: as many as a number has, and that they are the rule's `decimal`.
 use mathlib.Core.Path.{_≡_, refl, sym, ap, _∙_}
 use mathlib.Core.Bool.{Bool, true, false, cond}
 use mathlib.Core.List.{List, [], _∷_, _++_, append-assoc}
 use Prim.Native.Nat.{ℕ, zero, suc, _+_, _-_, _*_, _/_, _%_, _^_, _≤_, _<_}
 use native.Mathlib.Omega.{arith}
 use lib.Dec.{ltb}
-use lib.ListN.{set, take, drop, length, length-append, length-set, take-append-drop}
-use lib.Seq.{take-set-le, drop-set-lt, drop-cons, getD-set-same, sets, sets-eq, length-sets}
+use lib.ListN.{length, length-append}
 use lib.IntN.{ℤ, pos, negsuc, natAbs}
 use lib.Signed.{ltZ}
 use borrow.Author.Tests.{lt-ltb, le-ltb, ltb-true, ltb-false}
 use Rattle.rules.specs.Lines.{nought, hyphen}
-use Rattle.rules.specs.Times.{decimalBefore, decimal, overlaid}
+use Rattle.rules.specs.Times.{decimalBefore, decimal}
 use Rattle.laws.specs.Ranges.{true-not-false}
 
 -- ---- how many digits
@@ -117,69 +115,7 @@ decimal-neg (pos n) h e = absurd (omega (arith, ltb-true n 0 e))
 decimal-neg (negsuc n) h e = ap (λ l. hyphen ∷ l)
     (before-is (suc n) 18 (suc n) [] (omega arith) (omega arith) h ∙ append-none _)
 
--- ---- digits put into a room
-
--- room l with the last k digits of n put at a place, the last of them first
-unfoldable pub written : ℕ → ℕ → ℕ → List ℕ → List ℕ
-written zero n at l = l
-written (suc k) n at l = written k (n / 10) at (set l (at + k) (nought + n % 10))
-
-pub written-step : (i r at : ℕ) (l m : List ℕ) → 0 < i → written i r at l ≡ m
-    → written (i - 1) (r / 10) at (set l (at + (i - 1)) (nought + r % 10)) ≡ m
-unfolding written
-written-step zero r at l m h e = absurd (omega arith)
-written-step (suc i) r at l m h e = let q : suc i - 1 ≡ i = omega arith in rw q e
-
-pub written-end : (i r at : ℕ) (l m : List ℕ) → i ≡ 0 → written i r at l ≡ m → l ≡ m
-unfolding written
-written-end i r at l m h e = rw h at e
-
-pub length-written : (k n at : ℕ) (l : List ℕ) → length (written k n at l) ≡ length l
-unfolding written
-length-written zero n at l = refl
-length-written (suc k) n at l =
-    length-written k (n / 10) at (set l (at + k) (nought + n % 10)) ∙ length-set l (at + k) (nought + n % 10)
-
--- the digits stand at the place, and the rest of the room is as it was
-written-split : (k n at : ℕ) (l : List ℕ) → at + k ≤ length l
-    → written k n at l ≡ take at l ++ (lastDigits k n ++ drop (at + k) l)
-unfolding written lastDigits
-written-split zero n at l h = let q : at + 0 ≡ at = omega arith in rw q (sym (take-append-drop at l))
-written-split (suc k) n at l h =
-    let v : ℕ = nought + n % 10 in
-    let w : at + k < length l = omega arith in
-    let m : at + k ≤ length (set l (at + k) v) = omega (arith, length-set l (at + k) v) in
-    let d : drop (at + k) (set l (at + k) v) ≡ v ∷ drop (at + suc k) l =
-    let q : suc (at + k) ≡ at + suc k = omega arith in
-    drop-cons (set l (at + k) v) (at + k) 0 (omega (arith, length-set l (at + k) v))
-    ∙ rw (getD-set-same l (at + k) v 0 w, drop-set-lt (suc (at + k)) l (at + k) v (omega arith), q) in
-    written-split k (n / 10) at (set l (at + k) v) m
-    ∙ rw (
-      take-set-le at l (at + k) v (omega arith),
-      d,
-      append-assoc (lastDigits k (n / 10)) (v ∷ [])
-          (drop (at + suc k) l),
-    )
-
-pub written-is : (k n at : ℕ) (l : List ℕ) → at + k ≤ length l → written k n at l ≡ sets l at (lastDigits k n)
-written-is k n at l h =
-    let e = length-last-digits k n in
-    written-split k n at l h
-    ∙ sym (sets-eq (lastDigits k n) l at (omega arith) ∙ append-assoc (take at l) (lastDigits k n) _ ∙ rw e)
-
--- ---- bytes put into a room, one row after another
-
-pub sets-append : (l : List ℕ) (i : ℕ) (a b : List ℕ) → sets l i (a ++ b) ≡ sets (sets l i a) (i + length a) b
-sets-append l i [] b = let q : i + 0 ≡ i = omega arith in rw q
-sets-append l i (v ∷ a) b =
-    let q : i + suc (length a) ≡ suc i + length a = omega arith in
-    rw q (sets-append (set l i v) (suc i) a b)
-
-pub overlaid-is : (bytes room : List ℕ) → length bytes ≤ length room → sets room 0 bytes ≡ overlaid bytes room
-unfolding overlaid
-overlaid-is bytes room h =
-    let q : 0 + length bytes ≡ length bytes = omega arith in
-    sets-eq bytes room 0 (omega arith) ∙ rw q
+-- ---- how long it is
 
 pub length-decimal : (z : ℤ) → natAbs z < limit 18 → length (decimal z) ≤ 20
 length-decimal z h = go (ltZ z (pos 0)) refl
@@ -196,6 +132,3 @@ length-decimal z h = go (ltZ z (pos 0)) refl
 pub word-limit : (z : ℤ) → natAbs z ≤ 2 ^ 63 → natAbs z < limit 18
 unfolding limit
 word-limit z h = omega arith
-
-pub length-overlaid : (bytes room : List ℕ) → length bytes ≤ length room → length (overlaid bytes room) ≡ length room
-length-overlaid bytes room h = ap length (sym (overlaid-is bytes room h)) ∙ length-sets room 0 bytes

@@ -9,7 +9,7 @@ use lib.Dec.{eqb}
 use borrow.Author.Tests.{eqb-true, eq-eqb, ne-eqb, leb-true, le-leb, lt-leb, not-false}
 use Rattle.rules.specs.Bytes.{part, unsignedAt, sameBytes}
 use Rattle.rules.specs.StarList.{mark, countIn, fileLength, markRefused, countRefused}
-use Rattle.laws.specs.Bytes.{part-cons, part-none}
+use Rattle.laws.specs.FileParts.{part-cons, part-none}
 
 -- ---- what each test says
 

@@ -1,18 +1,19 @@
 -- Folding, of any pairs f from nought to half a quarter: what holds there holds of every angle; a circle more, a
--- quarter more, the opposite angle. `Place` says where an angle lies, by one linear equation.
+-- quarter more, the opposite angle.
 use mathlib.Core.Path.{_≡_, refl, sym, ap, _∙_}
 use mathlib.Core.Bool.{Bool, true, false, not, cond}
 use Prim.Native.Nat.{ℕ, zero, suc, _+_, _*_, _-_, _/_, _%_, _≤_, _<_}
 use native.Mathlib.Decide.{decLe}
 use native.Mathlib.Omega.{arith}
-use lib.IntN.{ℤ, pos, negsuc, negℤ, _+ℤ_, negℤ-negℤ}
+use lib.IntN.{ℤ, pos, negℤ, _+ℤ_}
 use lib.Dec.{T, leb, leb→le, nleb→lt, lit<, lit≤}
 use Rattle.integers.specs.Difference.{posPart, negPart, add-is, posPart-neg, negPart-neg}
 use Rattle.rules.specs.declared.Pair.{Pair}
 use Rattle.rules.specs.Units.{circle, quarter, halfQuarter}
 use Rattle.rules.specs.Rounding.{modulo}
 use Rattle.rules.specs.Circle.{exchangedPair, pairToQuarter, inQuarter, folded}
-use Rattle.laws.specs.Modulo.{modulo-lt}
+use Rattle.laws.specs.Quarters.{modulo-is, place, Place, quarter-next, quarter-last, opposite, opposite-at}
+use Rattle.laws.specs.Quarters.{quarter-opposite, quarter-opposite-at}
 
 -- ---- what holds up to half a quarter holds of every angle
 
@@ -36,85 +37,6 @@ module _ (R : Pair → Pair → Type 0) (f g : ℕ → Pair)
       let m = modulo a circle in
       h (m / quarter) (pairToQuarter f (m % quarter)) (pairToQuarter g (m % quarter))
       (to-quarter (m % quarter) (omega arith))
-
--- ---- where an angle lies: a is q quarters and r, but for whole circles
-
-pub record Place (a : ℤ) : Type 0 where
-  pub q : ℕ
-  pub r : ℕ
-  pub k : ℕ
-  pub j : ℕ
-  pub q-lt : q < 4
-  pub r-lt : r < quarter
-  pub is : posPart a + k * circle ≡ negPart a + (q * quarter + r) + j * circle
-
-modulo-is : (a : ℤ) (m k j : ℕ) → m < circle → posPart a + k * circle ≡ negPart a + m + j * circle
-    → modulo a circle ≡ m
-unfolding modulo
-modulo-is (pos n) m k j h e = omega arith
-modulo-is (negsuc n) m k j h e = omega arith
-
-circlesUp : ℤ → ℕ
-circlesUp (pos n) = 0
-circlesUp (negsuc n) = n / circle + 1
-
-circlesDown : ℤ → ℕ
-circlesDown (pos n) = n / circle
-circlesDown (negsuc n) = 0
-
-modulo-has : (a : ℤ) → posPart a + circlesUp a * circle ≡ negPart a + modulo a circle + circlesDown a * circle
-unfolding modulo circlesUp circlesDown
-modulo-has (pos n) = omega arith
-modulo-has (negsuc n) = omega arith
-
-pub place : (a : ℤ) → Place a
-place a = record {
-  q = modulo a circle / quarter;
-  r = modulo a circle % quarter;
-  k = circlesUp a;
-  j = circlesDown a;
-  q-lt = omega (arith, modulo-lt a circle (lit< tt));
-  r-lt = omega arith;
-  is = omega (arith, modulo-has a);
-}
-
--- ---- turning by quarters
-
-quarter-next : (q : ℕ) (p : Pair) → q < 3 → inQuarter (suc q) p ≡ inQuarter 1 (inQuarter q p)
-unfolding inQuarter
-quarter-next zero p h = refl
-quarter-next (suc zero) p h = refl
-quarter-next (suc (suc zero)) p h = rw (negℤ-negℤ (p .sine))
-quarter-next (suc (suc (suc q))) p h = absurd (omega arith)
-
-quarter-last : (p : Pair) → inQuarter 0 p ≡ inQuarter 1 (inQuarter 3 p)
-unfolding inQuarter
-quarter-last p = rw (negℤ-negℤ (p .cosine))
-
--- the pair of the opposite angle
-abbrev pub opposite : Pair → Pair
-opposite p = record { cosine = p .cosine; sine = negℤ (p .sine) }
-
-quarter-opposite : (q : ℕ) (p : Pair) → q < 4 → inQuarter (3 - q) (exchangedPair p) ≡ opposite (inQuarter q p)
-unfolding inQuarter exchangedPair
-quarter-opposite zero p h = refl
-quarter-opposite (suc zero) p h = refl
-quarter-opposite (suc (suc zero)) p h = rw (negℤ-negℤ (p .sine))
-quarter-opposite (suc (suc (suc zero))) p h = rw (negℤ-negℤ (p .cosine))
-quarter-opposite (suc (suc (suc (suc q)))) p h = absurd (omega arith)
-
--- at a quarter's beginning, where the sine is nought
-quarter-opposite-at : (q : ℕ) (p : Pair) → p .sine ≡ pos 0 → q < 3
-    → inQuarter (3 - q) p ≡ opposite (inQuarter (suc q) p)
-unfolding inQuarter
-quarter-opposite-at zero p e h = rw e
-quarter-opposite-at (suc zero) p e h = rw e
-quarter-opposite-at (suc (suc zero)) p e h = rw (e, negℤ-negℤ (p .cosine))
-quarter-opposite-at (suc (suc (suc q))) p e h = absurd (omega arith)
-
-opposite-at : (p : Pair) → p .sine ≡ pos 0 → inQuarter 0 p ≡ opposite (inQuarter 0 p)
-unfolding inQuarter
-opposite-at p e = rw e
 
 -- ---- the laws of angles
 

@@ -16,7 +16,7 @@ use Rattle.rules.specs.Circle.{pair}
 use Rattle.rules.specs.Reading.{angleToQuarter, notCircle, reading, asHeight, height}
 use Rattle.laws.specs.Root.{root-lt}
 use Rattle.laws.specs.Directions.{accepted-parts}
-use Rattle.laws.specs.Near.{UpTo}
+use Rattle.laws.specs.UpTo.{UpTo}
 use Rattle.laws.specs.Angles.{pair-circle}
 use Rattle.laws.specs.ReadingRange.{reading-is, angleToQuarter-range, signs-plus-plus, signs-plus-minus}
 

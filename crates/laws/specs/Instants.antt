@@ -2,8 +2,8 @@
 -- a date.
 use mathlib.Core.Path.{_≡_, refl}
 use mathlib.Core.Bool.{false}
-use mathlib.Core.Logic.{_⊎_, ⊎-elim}
-use Prim.Native.Nat.{ℕ, _+_, _-_, _*_, _≤_}
+use mathlib.Core.Logic.{⊎-elim}
+use Prim.Native.Nat.{ℕ, _+_, _*_, _≤_}
 use native.Mathlib.Omega.{arith}
 use lib.IntN.{ℤ, pos, natAbs, _+ℤ_, _-ℤ_, _*ℤ_}
 use Rattle.integers.specs.Difference.{IsDifference, add-is, sub-is, mul-is}
@@ -21,7 +21,8 @@ use Rattle.laws.specs.Ranges.{Between, between-iff, InRange, in-range}
 use Rattle.laws.specs.DayNumbers.{RealDate, real-date, day-number-is}
 use Rattle.laws.specs.DayNumbers.{real-count-lt}
 use Rattle.laws.specs.Seconds.{tai-le}
-use Rattle.laws.specs.Dates.{TimeExists, time-accepted-iff, difference-accepted-iff, tells}
+use Rattle.laws.specs.TimeOfDay.{TimeExists, time-accepted-iff}
+use Rattle.laws.specs.Dates.{difference-accepted-iff, tells}
 
 -- ---- a time of day, in naturals
 

@@ -1,19 +1,23 @@
 -- What is known of the rules, free of machine words. A file has the name of the rules it is about.
 -- Endings: -neg odd, -near error, -le size, -one no second, -nearest and -root meet the relation, -of-H from H.
+pub mod RefusalNumbers
 pub mod Refusals
 pub mod Units
 pub mod Rounding
+pub mod Nearest
 pub mod Product
 pub mod Root
 pub mod Modulo
 pub mod Directions
 pub mod LengthNear
 pub mod Length
--- sine and cosine: nearness, the series, the pair, the laws of angles
+-- sine and cosine: ranges and nearness, the series, the pair, the laws of angles
+pub mod UpTo
 pub mod Near
 pub mod Chain
 pub mod Series
 pub mod Circle
+pub mod Quarters
 pub mod Folding
 pub mod CircleSquares
 pub mod CircleLength
@@ -25,9 +29,11 @@ pub mod Arc
 pub mod Certificates
 pub mod ArcSeries
 pub mod HalfQuarterLess
+pub mod AdditionFormulas
 pub mod ReadingRange
 pub mod Heights
 pub mod ReadingParts
+pub mod Across
 pub mod Octant
 pub mod Reading
 -- turns, and the angles of an instant
@@ -51,12 +57,15 @@ pub mod Checks
 pub mod Rows
 pub mod Calendar
 pub mod DayNumbers
+pub mod DayAndDate
 pub mod Found
 pub mod Seconds
+pub mod TimeOfDay
 pub mod Dates
 pub mod Instants
 pub mod Parts
 pub mod Bytes
+pub mod FileParts
 pub mod ByteByByte
 pub mod Records
 pub mod FileLength
@@ -68,5 +77,6 @@ pub mod RoundTrip
 -- lines of `times`
 pub mod Lines
 pub mod Decimal
+pub mod Room
 pub mod Times
 pub mod Sample

@@ -1,61 +1,22 @@
 -- Nearness (blueprint, toolkit A): a whole number p is the fraction n / d of 2^30 parts, within e thousandths of a
 -- part. What keeps it: `near-scale`, `near-moved`, `near-of-le` (A0), `near-product` (A1), `near-less` (A2).
-use mathlib.Core.Path.{_≡_, refl, sym, ap, subst}
+use mathlib.Core.Path.{_≡_, sym, ap, subst}
 use mathlib.Core.List.{[], _∷_}
-use Prim.Native.Nat.{ℕ, _+_, _*_, _-_, _≤_, _<_}
+use Prim.Native.Nat.{ℕ, _+_, _*_, _≤_, _<_}
 use native.Mathlib.Nat.{mul-le-mul, mul-le-mul-left, mul-le-mul-right, mul-pos}
 use native.Mathlib.Omega.{arith}
 use lib.Dec.{lit<}
-use lib.IntN.{ℤ, pos, negsuc, natAbs, _+ℤ_, _-ℤ_, _*ℤ_}
-use Rattle.integers.specs.Difference.{posPart, negPart, pos-sub}
+use lib.IntN.{ℤ, pos, natAbs, _+ℤ_, _-ℤ_, _*ℤ_}
 use Rattle.integers.specs.Size.{abs-add, abs-sub, abs-mul}
 use Rattle.integers.specs.Ring.{ring, v0, v1, v2, v3, v4, v5, v6, v7, _⊕_, _⊖_, _⊗_, lit}
 use Rattle.rules.specs.Units.{unit}
-use Rattle.rules.specs.Rounding.{rnd, rndSize}
-use Rattle.laws.specs.Rounding.{rnd-near, rnd-pos, rndSize-under}
+use Rattle.rules.specs.Rounding.{rnd}
+use Rattle.laws.specs.Rounding.{rnd-near}
 
 -- p is 2^30 n / d, within e thousandths of a part
 pub record Near (p n : ℤ) (d e : ℕ) : Type 0 where
   pub divisor-pos : 0 < d
   pub near : 1000 * natAbs (p *ℤ pos d -ℤ pos unit *ℤ n) ≤ e * d
-
--- z lies from 0 to b
-pub record UpTo (z : ℤ) (b : ℕ) : Type 0 where
-  pub low : negPart z ≡ 0
-  pub high : posPart z ≤ b
-
--- ---- from 0 to b
-
-pub upTo-pos : (n b : ℕ) → n ≤ b → UpTo (pos n) b
-upTo-pos n b h = record { low = refl; high = h }
-
-pub upTo-is : (z : ℤ) (b : ℕ) → UpTo z b → z ≡ pos (natAbs z)
-upTo-is (pos n) b h = refl
-upTo-is (negsuc n) b h = absurd (omega (arith, h .low))
-
-pub upTo-le : (z : ℤ) (b : ℕ) → UpTo z b → natAbs z ≤ b
-upTo-le (pos n) b h = h .high
-upTo-le (negsuc n) b h = absurd (omega (arith, h .low))
-
-pub upTo-of-le : (z : ℤ) (b c : ℕ) → b ≤ c → UpTo z b → UpTo z c
-upTo-of-le z b c h k = record { low = k .low; high = omega (arith, k .high) }
-
--- a number less z, where z is no larger; and more z
-pub upTo-less : (z : ℤ) (b c : ℕ) → UpTo z b → b ≤ c → UpTo (pos c -ℤ z) c
-upTo-less (negsuc n) b c h k = absurd (omega (arith, h .low))
-upTo-less (pos n) b c h k = rw (pos-sub c n (omega (arith, h .high))) (upTo-pos (c - n) c (omega arith))
-
-pub upTo-more : (z : ℤ) (b c : ℕ) → UpTo z b → UpTo (pos c +ℤ z) (c + b)
-upTo-more (negsuc n) b c h = absurd (omega (arith, h .low))
-upTo-more (pos n) b c h = upTo-pos (c + n) (c + b) (omega (arith, h .high))
-
--- a rounded product of two such
-pub upTo-product : (x y : ℤ) (a b d m : ℕ) → UpTo x a → UpTo y b → 0 < d → a * b ≤ d * m → UpTo (rnd (x *ℤ y) d) m
-upTo-product (negsuc x) y a b d m h k hd l = absurd (omega (arith, h .low))
-upTo-product (pos x) (negsuc y) a b d m h k hd l = absurd (omega (arith, k .low))
-upTo-product (pos x) (pos y) a b d m h k hd l =
-    rw (rnd-pos (x * y) d)
-    (upTo-pos (rndSize (x * y) d) m (rndSize-under (x * y) d m hd (omega (arith, mul-le-mul (h .high) (k .high)))))
 
 -- ---- a fraction multiplied above and below, a part moved, a looser bound
 

@@ -19,7 +19,8 @@ use Rattle.laws.specs.Near.{Near}
 use Rattle.laws.specs.Circle.{errors-angle}
 use Rattle.laws.specs.CircleToHalf.{pairToHalf-is, radianParts-range, radianParts-near, radianParts-next-near}
 use Rattle.laws.specs.CircleToHalf.{radians-le, sine-near, cosine-near}
-use Rattle.laws.specs.Folding.{Place, place, folded-at, folded-place, lower-half, upper-half}
+use Rattle.laws.specs.Quarters.{Place, place}
+use Rattle.laws.specs.Folding.{folded-at, folded-place, lower-half, upper-half}
 use Rattle.laws.specs.Angles.{half-exchanged, sine-at-nought}
 
 -- no part of p is further than seven from q's

@@ -35,7 +35,7 @@ use Rattle.laws.specs.Angles.{pair-length}
 use Rattle.laws.specs.Turning.{turnBy-accepted}
 use Rattle.laws.specs.Aberration.{plus-accepted}
 use Rattle.laws.specs.Night.{NightFits}
-use Rattle.laws.specs.Near.{UpTo}
+use Rattle.laws.specs.UpTo.{UpTo}
 use Rattle.laws.specs.ReadingRange.{reading-range}
 use Rattle.laws.specs.Heights.{height-le}
 
@@ -171,7 +171,8 @@ by-answer P star site f g (Instants.At u t) = by (starRefused star) (siteRefused
     by false false = g (night u t site)
 
 -- of every place that is answered
-pub place-ranges : (m : Moment) (star : Star) (site : Site) (p : Place) → place m star site ≡ Placed.At p → PlaceRanges p
+pub place-ranges : (m : Moment) (star : Star) (site : Site) (p : Place) → place m star site ≡ Placed.At p
+    → PlaceRanges p
 unfolding place
 place-ranges m star site p e =
     by-answer (λ a. a ≡ Placed.At p → PlaceRanges p) star site (λ r c. clash r p c)

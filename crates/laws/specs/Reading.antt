@@ -16,7 +16,7 @@ use Rattle.rules.specs.Units.{circle, half}
 use Rattle.rules.specs.declared.Pair.{Pair}
 use Rattle.rules.specs.Circle.{pair}
 use Rattle.rules.specs.Reading.{angleToHalf, angleToQuarter, bySigns, notCircle, reading, Reads}
-use Rattle.laws.specs.Near.{UpTo}
+use Rattle.laws.specs.UpTo.{UpTo}
 use Rattle.laws.specs.Angles.{pair-circle, pair-opposite, pair-complement, pair-half, pair-supplement}
 use Rattle.laws.specs.ReadingRange.{angle-wide, angle-high, angleToQuarter-range, bySigns-range, reading-is}
 use Rattle.laws.specs.ReadingRange.{signs-plus-plus, signs-minus-plus, signs-minus-minus, signs-plus-minus}

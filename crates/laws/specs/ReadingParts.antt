@@ -15,7 +15,8 @@ use Rattle.rules.specs.Rounding.{rndSize}
 use Rattle.rules.specs.Circle.{radianParts}
 use Rattle.rules.specs.Reading.{inMicroarcseconds}
 use Rattle.laws.specs.Rounding.{rnd-pos, rndSize-is, rndSize-low, rndSize-high}
-use Rattle.laws.specs.Near.{Near, UpTo}
+use Rattle.laws.specs.UpTo.{UpTo}
+use Rattle.laws.specs.Near.{Near}
 use Rattle.laws.specs.Circle.{halfQuarterParts}
 use Rattle.laws.specs.Certificates.{over, halfQuarterAngle}
 use Rattle.laws.specs.HalfQuarterLess.{lessNumerator, lessDenominator}

@@ -17,7 +17,7 @@ use Rattle.rules.specs.Rounding.{rndSize}
 use Rattle.rules.specs.Reading.{arc, inMicroarcseconds, flat, tangent, angleToHalf, angleToQuarter, bySigns, notCircle}
 use Rattle.rules.specs.Reading.{reading}
 use Rattle.laws.specs.Rounding.{rnd-pos, rndSize-low}
-use Rattle.laws.specs.Near.{UpTo, upTo-pos, upTo-of-le, upTo-less, upTo-more}
+use Rattle.laws.specs.UpTo.{UpTo, upTo-pos, upTo-of-le, upTo-less, upTo-more}
 use Rattle.laws.specs.Arc.{ratio, threeSevenths, arc-of-ratio-range}
 
 -- ---- θ in µas

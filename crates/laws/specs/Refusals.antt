@@ -1,12 +1,10 @@
 -- The paper's number and values of an answer are one-to-one: two answers that say the same on paper are the same
--- answer.
--- So a contract that fixes what is said on paper leaves one answer of the enum.
-use mathlib.Core.Path.{_≡_, refl, sym, ap, _∙_}
-use mathlib.Core.List.{List, [], _∷_}
-use Prim.Native.Nat.{ℕ, _+_, _-_, _<_}
+-- answer. So a contract that fixes what is said on paper leaves one answer of the enum.
+use mathlib.Core.Path.{_≡_, sym, ap}
+use mathlib.Core.List.{List}
+use Prim.Native.Nat.{ℕ, _+_}
 use native.Mathlib.Omega.{arith}
 use lib.ListN.{getD}
-use lib.Dec.{lit<}
 use lib.IntN.{ℤ, pos, natAbs}
 use Rattle.rules.specs.declared.Pair.{Pair}
 use Rattle.rules.specs.declared.Refusal.{Refusal}
@@ -22,58 +20,10 @@ use Rattle.rules.specs.declared.Prepared.{Prepared}
 use Rattle.rules.specs.declared.Placed.{Placed}
 use Rattle.rules.specs.declared.Listed.{Listed}
 use Rattle.rules.specs.declared.Starred.{Starred}
-use Rattle.rules.specs.Refusals.{number, Answer, given, refused, numberedAnswer, datedAnswer, instantsAnswer}
-use Rattle.rules.specs.Refusals.{angleAnswer}
-use Rattle.rules.specs.Refusals.{precessedAnswer, arguedAnswer, nutatedAnswer, turnedAnswer, placedAnswer, listedAnswer}
-use Rattle.rules.specs.Refusals.{starredAnswer, parts, preparedAnswer}
-
--- ---- refusals
-
--- in the order of their numbers
-abbrev pub refusals : List Refusal
-refusals =
-    Refusal.Year ∷ Refusal.Day ∷ Refusal.Time ∷ Refusal.Difference ∷ Refusal.Star ∷ Refusal.Site ∷ Refusal.Direction
-    ∷ Refusal.Turn ∷ Refusal.Mark ∷ Refusal.Count ∷ Refusal.Room ∷ Refusal.Instant ∷ Refusal.Length ∷ []
-
-abbrev refusalOf : ℕ → Refusal
-refusalOf n = getD refusals (n - 1) Refusal.Length
-
-refusalOf-number : (r : Refusal) → refusalOf (number r) ≡ r
-unfolding number
-refusalOf-number Refusal.Year = refl
-refusalOf-number Refusal.Day = refl
-refusalOf-number Refusal.Time = refl
-refusalOf-number Refusal.Difference = refl
-refusalOf-number Refusal.Star = refl
-refusalOf-number Refusal.Site = refl
-refusalOf-number Refusal.Direction = refl
-refusalOf-number Refusal.Turn = refl
-refusalOf-number Refusal.Mark = refl
-refusalOf-number Refusal.Count = refl
-refusalOf-number Refusal.Room = refl
-refusalOf-number Refusal.Instant = refl
-refusalOf-number Refusal.Length = refl
-
-pub number-one : (r s : Refusal) → number r ≡ number s → r ≡ s
-number-one r s e = sym (refusalOf-number r) ∙ ap refusalOf e ∙ refusalOf-number s
-
-pub number-pos : (r : Refusal) → 0 < number r
-unfolding number
-number-pos Refusal.Year = lit< tt
-number-pos Refusal.Day = lit< tt
-number-pos Refusal.Time = lit< tt
-number-pos Refusal.Difference = lit< tt
-number-pos Refusal.Star = lit< tt
-number-pos Refusal.Site = lit< tt
-number-pos Refusal.Direction = lit< tt
-number-pos Refusal.Turn = lit< tt
-number-pos Refusal.Mark = lit< tt
-number-pos Refusal.Count = lit< tt
-number-pos Refusal.Room = lit< tt
-number-pos Refusal.Instant = lit< tt
-number-pos Refusal.Length = lit< tt
-
--- ---- answers
+use Rattle.rules.specs.Refusals.{Answer, given, refused, numberedAnswer, datedAnswer, instantsAnswer}
+use Rattle.rules.specs.Refusals.{angleAnswer, precessedAnswer, arguedAnswer, nutatedAnswer, turnedAnswer, placedAnswer}
+use Rattle.rules.specs.Refusals.{listedAnswer, starredAnswer, parts, preparedAnswer}
+use Rattle.laws.specs.RefusalNumbers.{number-pos, number-one}
 
 -- what is refused has a number that no answer has
 never : {A : Type 0} (r : Refusal) (n : ℕ) (zs : List ℤ) → given zs ≡ refused r n → A
@@ -135,8 +85,13 @@ precessed-one (Precessed.Refused r) (Precessed.Refused s) e = ap Precessed.Refus
 pub argued-one : (a b : Argued) → arguedAnswer a ≡ arguedAnswer b → a ≡ b
 unfolding arguedAnswer
 argued-one (Argued.By x) (Argued.By x′) e =
-    ap (λ zs. Argued.By (record { moon = at zs 0; sun = at zs 1; latitude = at zs 2; elongation = at zs 3; node = at zs 4 }))
-    (same-values _ _ e)
+    ap (λ zs. Argued.By (record {
+      moon = at zs 0;
+      sun = at zs 1;
+      latitude = at zs 2;
+      elongation = at zs 3;
+      node = at zs 4;
+    })) (same-values _ _ e)
 argued-one (Argued.By x) (Argued.Refused s) e = never s 5 _ e
 argued-one (Argued.Refused r) (Argued.By x) e = never r 5 _ (sym e)
 argued-one (Argued.Refused r) (Argued.Refused s) e = ap Argued.Refused (same-refusal r s 5 e)
@@ -178,8 +133,12 @@ listed-one (Listed.Refused r) (Listed.Refused s) e = ap Listed.Refused (same-ref
 pub starred-one : (a b : Starred) → starredAnswer a ≡ starredAnswer b → a ≡ b
 unfolding starredAnswer
 starred-one (Starred.Of s) (Starred.Of t) e =
-    ap (λ zs. Starred.Of (record { ra = at zs 0; declination = at zs 1; «ra_motion» = at zs 2; «declination_motion» = at zs 3 }))
-    (same-values _ _ e)
+    ap (λ zs. Starred.Of (record {
+      ra = at zs 0;
+      declination = at zs 1;
+      «ra_motion» = at zs 2;
+      «declination_motion» = at zs 3;
+    })) (same-values _ _ e)
 starred-one (Starred.Of s) (Starred.Refused r) e = never r 4 _ e
 starred-one (Starred.Refused r) (Starred.Of s) e = never r 4 _ (sym e)
 starred-one (Starred.Refused r) (Starred.Refused s) e = ap Starred.Refused (same-refusal r s 4 e)

@@ -15,8 +15,8 @@ use Rattle.rules.specs.Bytes.{ofBytes, bytesOf, part, unsignedAt, signedAt, sig
 use Rattle.rules.specs.StarList.{mark, countIn, fileLength, starIn, recordOf, starsIn, stars, anyRefused, markRefused}
 use Rattle.rules.specs.StarList.{countRefused, listCount, listRead, freshEntry, leaving, entriesAfterRead, starsOf}
 use Rattle.rules.specs.StarList.{fileOf, listWritten, roomAfterWrite}
-use Rattle.laws.specs.Bytes.{Bytes, drop-bytes, part-part, bytesOf-at, signedBytes-at, signedAt-after}
-use Rattle.laws.specs.Bytes.{signed-length}
+use Rattle.laws.specs.Bytes.{Bytes, signed-length}
+use Rattle.laws.specs.FileParts.{drop-bytes, part-part, bytesOf-at, signedBytes-at, signedAt-after}
 use Rattle.laws.specs.FileLength.{records, record-length, headOf, file-is, file-length, stars-length}
 use Rattle.laws.specs.FileLength.{starsOf-length, file-count}
 use Rattle.laws.specs.FileTests.{Headed, headed, Counted, counted, count-passes}

@@ -9,9 +9,10 @@ use lib.Dec.{lit≤}
 use lib.ListN.{length}
 use lib.IntN.{ℤ, pos, negℤ, natAbs, _*ℤ_}
 use Rattle.integers.specs.Ring.{ring, Term, v0, v1, _⊕_, _⊖_, _⊗_, lit}
-use Rattle.integers.specs.Polynomial.{Step, step, plus, scale, times, valueAt, numerator, denominator, coefficients}
-use Rattle.integers.specs.Polynomial.{scaleOf, degree, numerator-is, denominator-is}
-use Rattle.integers.specs.Polynomial.{power as powerOf}
+use Rattle.integers.specs.Power.{power as powerOf}
+use Rattle.integers.specs.Polynomial.{plus, scale, times, valueAt}
+use Rattle.integers.specs.SeriesSteps.{Step, step, numerator, denominator, coefficients, scaleOf, degree, numerator-is}
+use Rattle.integers.specs.SeriesSteps.{denominator-is}
 use Rattle.rules.specs.Series.{factorial, power, term, whole, sineSeries, cosineSeries}
 use Rattle.laws.specs.Chain.{circleSteps}
 

@@ -25,7 +25,8 @@ use Rattle.rules.specs.Times.{decimal, refusedLine, threeNumbers, answerLine, p
 use Rattle.laws.specs.Ranges.{true-not-false}
 use Rattle.laws.specs.DayNumbers.{real-number-le}
 use Rattle.laws.specs.Instants.{instants-real, ut-within, tt-within}
-use Rattle.laws.specs.Decimal.{sets-append, word-limit, length-decimal}
+use Rattle.laws.specs.Decimal.{word-limit, length-decimal}
+use Rattle.laws.specs.Room.{sets-append}
 
 -- ---- `refused N`
 

@@ -1,7 +1,7 @@
 -- What the private functions ask of their numbers, by name: each is met for every reading.
 use Prim.Native.Nat.{_+_, _*_, _≤_, _<_, _^_}
 use lib.IntN.{ℤ, natAbs}
-use Rattle.laws.specs.Near.{UpTo}
+use Rattle.laws.specs.UpTo.{UpTo}
 
 -- a ratio that is read: a is at most 3/7 of b
 pub record RatioGiven (a b : ℤ) : Type 0 where

@@ -9,7 +9,7 @@ ghost use mathlib.Core.Path.{_≡_};
 ghost use lib.IntN.{ℤ, natAbs};
 ghost use Rattle.rules.specs.Units.{quarter};
 ghost use Rattle.rules.specs.Reading as rule;
-ghost use Rattle.laws.specs.Near.{UpTo};
+ghost use Rattle.laws.specs.UpTo.{UpTo};
 ghost use Rattle.laws.specs.Arc.{ratio};
 ghost use Rattle.laws.specs.Heights.{HeightGiven};
 ghost use Rattle.octants.specs.Given.{RatioGiven, OctantGiven, SizesGiven, ReadingGiven};

@@ -15,7 +15,7 @@ use Rattle.rules.specs.Refusals.{number}
 use Rattle.rules.specs.Place.{starRefused, apparent, overhead, readings, placeIn}
 use Rattle.rules.specs.StarList.{noughts, freshEntry, listStar}
 use Rattle.rules.specs.NightList.{worked}
-use Rattle.laws.specs.Near.{UpTo}
+use Rattle.laws.specs.UpTo.{UpTo}
 use Rattle.laws.specs.ReadingRange.{reading-range}
 use Rattle.laws.specs.Heights.{height-le}
 use Rattle.laws.specs.Times.{refused-line-le, number-le}

@@ -27,7 +27,7 @@ use Rattle.rules.specs.Nutation.{longitudeAmplitude, obliquityAmplitude}
 use Rattle.rules.specs.Sidereal.{siderealPolynomial, siderealRow}
 use Rattle.rules.specs.Reading.{reading}
 use Rattle.rules.specs.Place.{place}
-use Rattle.laws.specs.Near.{UpTo}
+use Rattle.laws.specs.UpTo.{UpTo}
 use Rattle.laws.specs.Polynomials.{polynomial-near, each-within-2}
 use Rattle.laws.specs.Angles.{pair-near}
 use Rattle.laws.specs.Reading.{reading-reads}

@@ -4,7 +4,7 @@ use lib.IntN.{ℤ, natAbs}
 use Rattle.rules.specs.Units.{unit}
 use Rattle.rules.specs.Length.{root, pairSquares}
 use Rattle.rules.specs.declared.Pair.{Pair}
-use Rattle.laws.specs.Near.{UpTo}
+use Rattle.laws.specs.UpTo.{UpTo}
 
 -- a stage of a row: w and p from nought to a whole, k from 1 to the row's largest
 pub record StageGiven (w k p : ℤ) : Type 0 where

@@ -11,7 +11,7 @@ ghost use lib.IntN.{ℤ};
 ghost use Rattle.rules.specs.Units.{halfQuarter};
 ghost use Rattle.rules.specs.Length.{pairToLength};
 ghost use Rattle.rules.specs.Circle.{radianParts, pairOfParts};
-ghost use Rattle.laws.specs.Near.{UpTo};
+ghost use Rattle.laws.specs.UpTo.{UpTo};
 ghost use Rattle.laws.specs.Circle.{halfQuarterParts};
 ghost use Rattle.series.specs.Given.{PairGiven};
 

@@ -6,7 +6,7 @@ ghost use Prim.Native.Nat.{ℕ, _≤_};
 ghost use lib.IntN.{ℤ, pos, natAbs};
 ghost use Rattle.rules.specs.Units.{unit};
 ghost use Rattle.rules.specs.Circle as rule;
-ghost use Rattle.laws.specs.Near.{UpTo};
+ghost use Rattle.laws.specs.UpTo.{UpTo};
 ghost use Rattle.series.specs.Given.{StageGiven};
 
 // w = Rnd(x^2 / 2^30).

@@ -9,7 +9,7 @@ use Rattle.rules.specs.Units.{unit}
 use Rattle.rules.specs.Rounding.{rnd}
 use Rattle.rules.specs.Circle.{squareParts}
 use Rattle.rules.specs.Reading as rule
-use Rattle.laws.specs.Near.{UpTo, upTo-le, upTo-of-le}
+use Rattle.laws.specs.UpTo.{UpTo, upTo-le, upTo-of-le}
 use Rattle.laws.specs.Circle.{halfQuarterParts, square-range}
 use Rattle.laws.specs.Arc.{threeSevenths, arc-factor-range}
 use Rattle.words.specs.Holds.{Holds, bits, _*ʷ_, arg, got, mul, mul-ok}

@@ -7,7 +7,7 @@ use mathlib.Core.List.{[], _∷_}
 use Rattle.rules.specs.Units.{unit}
 use Rattle.rules.specs.Rounding.{rnd, rndSize}
 use Rattle.rules.specs.Reading as rule
-use Rattle.laws.specs.Near.{UpTo, upTo-pos, upTo-le}
+use Rattle.laws.specs.UpTo.{UpTo, upTo-pos, upTo-le}
 use Rattle.laws.specs.Arc.{first-range-unit, arcStages-range}
 use Rattle.words.specs.Holds.{Holds, bits, arg, got}
 use Rattle.series.specs.Given.{StageGiven}

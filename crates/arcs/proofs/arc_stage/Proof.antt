@@ -8,7 +8,7 @@ use Rattle.rules.specs.Units.{unit}
 use Rattle.rules.specs.Rounding.{rnd}
 use Rattle.rules.specs.Reading as rule
 use Rattle.laws.specs.Rounding.{rnd-under, rnd-le}
-use Rattle.laws.specs.Near.{UpTo, upTo-le}
+use Rattle.laws.specs.UpTo.{UpTo, upTo-le}
 use Rattle.words.specs.Holds.{Holds, bits, _*ʷ_, arg, got, sub, sub-ok, mul, mul-ok}
 use Rattle.arcs.proofs.arc_stage.Statement.{statement}
 use Rattle.arcs.proofs.arc_stage.Tie as tie

@@ -8,7 +8,7 @@ use Rattle.rules.specs.Units.{unit, half, halfInParts}
 use Rattle.rules.specs.Rounding.{rnd}
 use Rattle.rules.specs.Reading as rule
 use Rattle.laws.specs.Product.{reading-fits}
-use Rattle.laws.specs.Near.{upTo-le}
+use Rattle.laws.specs.UpTo.{upTo-le}
 use Rattle.words.specs.Holds.{Holds, bits, arg}
 use Rattle.arcs.proofs.in_microarcseconds.Statement.{statement}
 use Rattle.arcs.proofs.in_microarcseconds.Tie as tie

@@ -11,7 +11,7 @@ use Rattle.rules.specs.Units.{unit, circle, quarter}
 use Rattle.rules.specs.Rounding.{modulo}
 use Rattle.rules.specs.Circle as rule
 use Rattle.laws.specs.Modulo.{modulo-lt}
-use Rattle.laws.specs.Near.{upTo-pos}
+use Rattle.laws.specs.UpTo.{upTo-pos}
 use Rattle.laws.specs.Angles.{pairToQuarter-sized}
 use Rattle.words.specs.Holds.{Holds, bits, _/ʷ_, _%ʷ_, got, lit, div, div-ok, rem}
 use Rattle.circle.proofs.pair.Statement.{statement}

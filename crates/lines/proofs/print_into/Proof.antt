@@ -8,7 +8,7 @@ use borrow.Author.Tests.{lt-ltb, le-ltb}
 use Rattle.rules.specs.Lines.{lineOf}
 use Rattle.rules.specs.Times.{printed, overlaid}
 use Rattle.lines.specs.Printed.{printedIn}
-use Rattle.laws.specs.Decimal.{overlaid-is}
+use Rattle.laws.specs.Room.{overlaid-is}
 use Rattle.laws.specs.Times.{printed-le}
 use Rattle.lines.proofs.print_into.Statement.{statement}
 use Rattle.lines.proofs.print_into.Tie as tie

@@ -6,7 +6,7 @@ use lib.ListN.{length}
 use borrow.Author.Needs.{needs}
 use Rattle.rules.specs.Lines.{lineOf}
 use Rattle.rules.specs.Times.{printed}
-use Rattle.laws.specs.Decimal.{overlaid-is}
+use Rattle.laws.specs.Room.{overlaid-is}
 use Rattle.laws.specs.Times.{printed-le}
 use Rattle.lines.proofs.print_line.Statement.{statement}
 use Rattle.lines.proofs.print_line.Tie as tie

@@ -5,7 +5,7 @@ use lib.IntN.{ℤ, pos, natAbs}
 use Rattle.integers.specs.Difference.{leZ-true, leZ-false}
 use Rattle.rules.specs.Units.{unit, halfQuarter}
 use Rattle.rules.specs.Reading as rule
-use Rattle.laws.specs.Near.{UpTo, upTo-pos, upTo-is, upTo-le, upTo-of-le}
+use Rattle.laws.specs.UpTo.{UpTo, upTo-pos, upTo-is, upTo-le, upTo-of-le}
 use Rattle.laws.specs.Arc.{ratio, threeSevenths, ratio-range, arc-of-ratio-range}
 use Rattle.laws.specs.ReadingRange.{microarcseconds-range, angle-flat, angle-steep}
 use Rattle.words.specs.Holds.{Holds, bits, _+ʷ_, _-ʷ_, _*ʷ_, got, lit, add, add-ok, sub, sub-ok, sub-nat, sub-nat-ok}

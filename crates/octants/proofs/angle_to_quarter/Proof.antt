@@ -5,7 +5,7 @@ use lib.IntN.{pos, natAbs}
 use Rattle.integers.specs.Difference.{ltZ-true, ltZ-false}
 use Rattle.rules.specs.Units.{quarter, halfQuarter}
 use Rattle.rules.specs.Reading as rule
-use Rattle.laws.specs.Near.{upTo-pos, upTo-is, upTo-le}
+use Rattle.laws.specs.UpTo.{upTo-pos, upTo-is, upTo-le}
 use Rattle.laws.specs.ReadingRange.{angleToHalf-range, angle-wide, angle-high}
 use Rattle.words.specs.Holds.{Holds, bits, got, lit, sub, sub-ok}
 use Rattle.octants.specs.Given.{OctantGiven}

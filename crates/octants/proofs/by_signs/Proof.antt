@@ -8,7 +8,7 @@ use mir.Val.{toZ, ofZ}
 use mir.Facts.{toZ-ofZ}
 use Rattle.rules.specs.Units.{circle, half, quarter}
 use Rattle.rules.specs.Reading.{bySigns}
-use Rattle.laws.specs.Near.{upTo-le}
+use Rattle.laws.specs.UpTo.{upTo-le}
 use Rattle.words.specs.Holds.{Holds, bits, arg, lit, add, add-ok, sub, sub-ok}
 use Rattle.octants.proofs.by_signs.Statement.{statement}
 use Rattle.octants.proofs.by_signs.Tie as tie

@@ -10,7 +10,7 @@ use Rattle.integers.specs.Size.{square-abs}
 use Rattle.rules.specs.Units.{unit, circle, half}
 use Rattle.rules.specs.Length.{root, square}
 use Rattle.rules.specs.Reading as rule
-use Rattle.laws.specs.Near.{upTo-le}
+use Rattle.laws.specs.UpTo.{upTo-le}
 use Rattle.laws.specs.ReadingRange.{reading-range}
 use Rattle.words.specs.Holds.{Holds, bits, _+ʷ_, _*ʷ_, arg, got, lit, add, add-ok, sub, sub-ok, mul, mul-ok}
 use Rattle.octants.proofs.height_of.Statement.{statement}

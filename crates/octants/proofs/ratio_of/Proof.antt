@@ -6,7 +6,7 @@ use lib.Dec.{lt→ltb}
 use lib.IntN.{pos, natAbs, _*ℤ_}
 use borrow.Author.Needs.{needs}
 use Rattle.rules.specs.Units.{unit}
-use Rattle.laws.specs.Near.{upTo-is, upTo-le}
+use Rattle.laws.specs.UpTo.{upTo-is, upTo-le}
 use Rattle.words.specs.Holds.{Holds, bits, _*ʷ_, got, lit, mul-to, mul-to-ok}
 use Rattle.octants.proofs.ratio_of.Statement.{statement}
 use Rattle.octants.proofs.ratio_of.Tie as tie

@@ -10,7 +10,7 @@ use lib.IntN.{ℤ, pos, natAbs}
 use lib.Signed.{ltZ}
 use Rattle.rules.specs.Units.{circle, quarter}
 use Rattle.rules.specs.Reading as rule
-use Rattle.laws.specs.Near.{upTo-pos, upTo-le}
+use Rattle.laws.specs.UpTo.{upTo-pos, upTo-le}
 use Rattle.laws.specs.ReadingRange.{angleToQuarter-range, bySigns-range, reading-is}
 use Rattle.words.specs.Holds.{Holds, bits, arg, got}
 use Rattle.octants.proofs.reading_of.Statement.{statement}

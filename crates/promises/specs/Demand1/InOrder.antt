@@ -10,7 +10,7 @@ use Rattle.rules.specs.declared.Refusal.{Refusal}
 use Rattle.rules.specs.Checks.{Check, first}
 use Rattle.rules.specs.Refusals.{number}
 use Rattle.laws.specs.Checks.{FirstGiven, NoneGiven, first-refused, first-answered}
-use Rattle.laws.specs.Refusals.{number-one, number-pos}
+use Rattle.laws.specs.RefusalNumbers.{number-one, number-pos}
 
 -- an answer is a refusal exactly when that is the first of the checks that is given
 abbrev pub Refuses : {A : Type 0} → A → (Refusal → A) → List Check → Type 0

@@ -9,7 +9,7 @@ use Rattle.words.specs.Holds.{Holds, bits, got}
 use Rattle.rules.specs.Units.{between}
 use Rattle.rules.specs.declared.Time.{Time}
 use Rattle.rules.specs.Dates.{lastSecond, timeRefused}
-use Rattle.laws.specs.Dates.{last-second-le}
+use Rattle.laws.specs.TimeOfDay.{last-second-le}
 use Rattle.laws.specs.Parts.{timeOfParts}
 use Rattle.seconds.proofs.time_refused.Statement.{statement}
 use Rattle.seconds.proofs.time_refused.Tie as tie

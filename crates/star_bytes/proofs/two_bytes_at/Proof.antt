@@ -5,7 +5,7 @@ use native.Mathlib.Omega.{arith}
 use lib.ListN.{getD}
 use borrow.Author.Needs.{needs}
 use Rattle.rules.specs.Bytes.{unsignedAt}
-use Rattle.laws.specs.Bytes.{unsigned-cons, unsigned-none}
+use Rattle.laws.specs.FileParts.{unsigned-cons, unsigned-none}
 use Rattle.star_bytes.proofs.two_bytes_at.Statement.{statement}
 use Rattle.star_bytes.proofs.two_bytes_at.Tie as tie
 

@@ -7,7 +7,7 @@ use lib.Seq.{length-take-le}
 use borrow.Author.Needs.{needs}
 use Rattle.rules.specs.declared.Line.{Line}
 use Rattle.rules.specs.Times.{printed, overlaid}
-use Rattle.laws.specs.Decimal.{length-overlaid}
+use Rattle.laws.specs.Room.{length-overlaid}
 use Rattle.laws.specs.Times.{printed-le}
 use Rattle.times.proofs.answer.Statement.{statement}
 use Rattle.times.proofs.answer.Tie as tie

@@ -5,7 +5,7 @@ use native.Mathlib.Omega.{arith}
 use lib.IntN.{negℤ, natAbs, +ℤ-idl}
 use Rattle.rules.specs.Units.{unit}
 use Rattle.rules.specs.Circle.{inQuarter}
-use Rattle.laws.specs.Near.{upTo-le}
+use Rattle.laws.specs.UpTo.{upTo-le}
 use Rattle.words.specs.Holds.{Holds, bits, _-ʷ_, arg, lit, sub, sub-ok}
 use Rattle.circle.specs.Bits.{size-of-bits}
 use Rattle.circle.proofs.quarters.in_quarter.Statement.{statement}

@@ -6,7 +6,7 @@ use lib.IntN.{pos, natAbs}
 use borrow.Author.Tests.{eq-eqb, ne-eqb}
 use Rattle.rules.specs.Units.{halfQuarter}
 use Rattle.rules.specs.Circle as rule
-use Rattle.laws.specs.Near.{upTo-is, upTo-le, UpTo}
+use Rattle.laws.specs.UpTo.{upTo-is, upTo-le, UpTo}
 use Rattle.laws.specs.Circle.{halfQuarterParts}
 use Rattle.laws.specs.CircleToHalf.{radianParts-range}
 use Rattle.words.specs.Holds.{Holds, bits, arg, got}

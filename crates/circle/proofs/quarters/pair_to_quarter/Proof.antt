@@ -6,7 +6,7 @@ use lib.IntN.{pos, natAbs}
 use Rattle.integers.specs.Difference.{leZ-true, leZ-false}
 use Rattle.rules.specs.Units.{unit, quarter, halfQuarter}
 use Rattle.rules.specs.Circle as rule
-use Rattle.laws.specs.Near.{upTo-pos, upTo-is, upTo-le}
+use Rattle.laws.specs.UpTo.{upTo-pos, upTo-is, upTo-le}
 use Rattle.laws.specs.Folding.{lower-half, upper-half}
 use Rattle.laws.specs.Angles.{pairToHalf-sized}
 use Rattle.words.specs.Holds.{Holds, bits, _-ʷ_, got, lit, sub-nat, sub-nat-ok}

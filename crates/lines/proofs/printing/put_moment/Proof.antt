@@ -12,7 +12,7 @@ use Rattle.rules.specs.declared.Refusal.{Refusal}
 use Rattle.rules.specs.Calendar.{dayNumber}
 use Rattle.rules.specs.Dates.{instants}
 use Rattle.rules.specs.Times.{decimal, answerLine}
-use Rattle.laws.specs.DayNumbers.{day-of-given}
+use Rattle.laws.specs.DayAndDate.{day-of-given}
 use Rattle.laws.specs.Times.{refusedText, refused-answer, instants-of-refused}
 use Rattle.lines.proofs.printing.put_moment.Statement.{statement}
 use Rattle.lines.proofs.printing.put_moment.Tie as tie

@@ -8,7 +8,7 @@ use lib.Seq.{sets, length-sets}
 use mir.Facts.{toZ-ofZ}
 use borrow.Author.Needs.{needs}
 use Rattle.rules.specs.Times.{decimal}
-use Rattle.laws.specs.Decimal.{sets-append}
+use Rattle.laws.specs.Room.{sets-append}
 use Rattle.laws.specs.Times.{refusedText}
 use Rattle.lines.proofs.printing.put_refused.Statement.{statement}
 use Rattle.lines.proofs.printing.put_refused.Tie as tie

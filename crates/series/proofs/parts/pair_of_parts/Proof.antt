@@ -6,7 +6,7 @@ use lib.IntN.{pos, _*ℤ_}
 use borrow.Author.Needs.{needs}
 use Rattle.rules.specs.Units.{unit}
 use Rattle.rules.specs.Circle.{squareParts, stages, sineRow, rawSine, rawCosine, pairOfParts}
-use Rattle.laws.specs.Near.{upTo-le}
+use Rattle.laws.specs.UpTo.{upTo-le}
 use Rattle.laws.specs.Circle.{halfQuarterParts, square-range, sine-stages-range, rawSine-range, rawCosine-range}
 use Rattle.laws.specs.CircleLength.{rawPair, lengthOf-pos}
 use Rattle.words.specs.Holds.{Holds, bits, _*ʷ_, arg, got, mul, mul-ok}

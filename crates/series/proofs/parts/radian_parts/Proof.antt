@@ -4,7 +4,7 @@ use borrow.Author.Needs.{needs}
 use Rattle.rules.specs.Units.{halfQuarter}
 use Rattle.rules.specs.Circle.{radianParts}
 use Rattle.laws.specs.Product.{radians-fits}
-use Rattle.laws.specs.Near.{upTo-le}
+use Rattle.laws.specs.UpTo.{upTo-le}
 use Rattle.words.specs.Holds.{Holds, bits, arg}
 use Rattle.series.proofs.parts.radian_parts.Statement.{statement}
 use Rattle.series.proofs.parts.radian_parts.Tie as tie

@@ -4,7 +4,7 @@ use lib.Dec.{lit<, lit≤}
 use lib.IntN.{ℤ, pos}
 use Rattle.rules.specs.Units.{unit}
 use Rattle.rules.specs.Circle as rule
-use Rattle.laws.specs.Near.{UpTo, upTo-pos, upTo-le}
+use Rattle.laws.specs.UpTo.{UpTo, upTo-pos, upTo-le}
 use Rattle.laws.specs.Chain.{stage-range}
 use Rattle.laws.specs.Circle.{unit-upTo}
 use Rattle.words.specs.Holds.{Holds, bits, arg, got}

@@ -9,7 +9,7 @@ use Rattle.rules.specs.Units.{unit}
 use Rattle.rules.specs.Rounding.{rnd}
 use Rattle.rules.specs.Circle as rule
 use Rattle.laws.specs.Rounding.{rnd-under}
-use Rattle.laws.specs.Near.{UpTo, upTo-le}
+use Rattle.laws.specs.UpTo.{UpTo, upTo-le}
 use Rattle.words.specs.Holds.{Holds, bits, _*ʷ_, arg, got, lit, sub, sub-ok, mul, mul-ok}
 use Rattle.series.proofs.rows.stage.Statement.{statement}
 use Rattle.series.proofs.rows.stage.Tie as tie

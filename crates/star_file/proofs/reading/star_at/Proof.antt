@@ -8,7 +8,7 @@ use mir.Val.{toZ, ofZ}
 use Rattle.words.specs.Fits.{held64, held32}
 use Rattle.rules.specs.Bytes.{signedAt}
 use Rattle.rules.specs.StarList.{starIn}
-use Rattle.laws.specs.Bytes.{signedAt-drop}
+use Rattle.laws.specs.FileParts.{signedAt-drop}
 use borrow.Author.Needs.{needs}
 use Rattle.star_file.proofs.reading.star_at.Statement.{statement}
 use Rattle.star_file.proofs.reading.star_at.Tie as tie
