@@ -3,7 +3,7 @@
 use rules::Listed;
 use rules::Starred;
 ghost use mathlib.Core.Path.{_≡_};
-ghost use Rattle.rules.specs.Refusals.{listedAnswer, starredAnswer};
+ghost use Rattle.rules.specs.Answers.{listedAnswer, starredAnswer};
 ghost use Rattle.answers.specs.Answers.{countedOut, starredOut, writtenOut};
 
 // The refusal's number and nought, or 0 and the number of records.

@@ -2,7 +2,7 @@
 
 use rules::Placed;
 ghost use mathlib.Core.Path.{_≡_};
-ghost use Rattle.rules.specs.Refusals.{placedAnswer};
+ghost use Rattle.rules.specs.Answers.{placedAnswer};
 ghost use Rattle.answers.specs.Answers.{placedOut};
 
 // The refusal's number and noughts, or 0 and the place in µas.

@@ -2,7 +2,7 @@
 
 use rules::Turned;
 ghost use mathlib.Core.Path.{_≡_};
-ghost use Rattle.rules.specs.Refusals.{turnedAnswer};
+ghost use Rattle.rules.specs.Answers.{turnedAnswer};
 ghost use Rattle.answers.specs.Answers.{turnedOut};
 
 // The refusal's number and noughts, or 0 and the direction in parts of 2^30.

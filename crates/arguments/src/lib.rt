@@ -7,7 +7,7 @@ use rules::Arguments;
 use rules::Refusal;
 use rules::Tt;
 ghost use mathlib.Core.Path.{_≡_};
-ghost use Rattle.rules.specs.Polynomials.{arguments, argumentsAt};
+ghost use Rattle.rules.specs.Arguments.{arguments, argumentsAt};
 ghost use Rattle.laws.specs.Instant.{InRange};
 
 // The five arguments of nutation.

@@ -9,7 +9,8 @@ use lib.Dec.{eqb}
 use Rattle.rules.specs.declared.Moment.{Moment}
 use Rattle.rules.specs.declared.Site.{Site}
 use Rattle.rules.specs.declared.Line.{Line}
-use Rattle.rules.specs.Lines.{space, form, ofNumber, signed, lineOf}
+use Rattle.rules.specs.Numerals.{space, ofNumber, signed}
+use Rattle.rules.specs.Lines.{form, lineOf}
 use Rattle.asking.specs.declared.Asked.{Asked}
 
 -- ---- words

@@ -9,7 +9,8 @@ use lib.ListN.{length, take, drop, length-take, length-drop}
 use lib.Seq.{take-all, length-take-le}
 use borrow.Author.Tests.{ltb-true, ltb-false}
 use Rattle.rules.specs.declared.Line.{Line}
-use Rattle.rules.specs.Lines.{ofNumber, lineOf}
+use Rattle.rules.specs.Numerals.{ofNumber}
+use Rattle.rules.specs.Lines.{lineOf}
 use Rattle.laws.specs.Lines.{number-long, long-other}
 use Rattle.asking.specs.declared.Asked.{Asked}
 use Rattle.asking.specs.Asking.{wordLength, firstWord, afterWord, ofSite, withSite, askedIn}

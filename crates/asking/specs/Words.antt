@@ -11,7 +11,8 @@ use lib.Seq.{drop-cons}
 use borrow.Author.Tests.{eq-eqb, ne-eqb}
 use Rattle.rules.specs.declared.Moment.{Moment}
 use Rattle.rules.specs.declared.Line.{Line}
-use Rattle.rules.specs.Lines.{space, negative, unsigned, ofDigits, ofNumber, lineOf}
+use Rattle.rules.specs.Numerals.{space, negative, unsigned, ofDigits, ofNumber}
+use Rattle.rules.specs.Lines.{lineOf}
 use Rattle.laws.specs.Lines.{to-end}
 use Rattle.asking.specs.declared.Asked.{Asked}
 use Rattle.asking.specs.Asking.{wordLength, firstWord, afterWord, ofSite, withSite, askedIn}

@@ -7,7 +7,7 @@ use rules::Place;
 use rules::Star;
 use stars::star_refused;
 ghost use mathlib.Core.Path.{_≡_};
-ghost use Rattle.rules.specs.StarList.{freshEntry};
+ghost use Rattle.rules.specs.ListReading.{freshEntry};
 ghost use Rattle.rules.specs.NightList as nights;
 ghost use Rattle.laws.specs.Night.{NightFits};
 

@@ -10,8 +10,10 @@ use lib.ListN.{length, getD, take, drop, length-append, take-append-drop}
 use lib.Seq.{length-take-le, take-length, getD-append-seam}
 use Rattle.rules.specs.declared.Entry.{Entry}
 use Rattle.rules.specs.declared.Listed.{Listed}
-use Rattle.rules.specs.StarList.{fileLength, recordOf, leaving, starsOf, roomRefused, writtenOf}
-use Rattle.rules.specs.StarList.{listWritten, roomAfterWrite}
+use Rattle.rules.specs.StarList.{fileLength, recordOf}
+use Rattle.rules.specs.ListReading.{leaving}
+use Rattle.rules.specs.ListWriting.{starsOf, roomRefused, writtenOf}
+use Rattle.rules.specs.ListWriting.{listWritten, roomAfterWrite}
 use Rattle.rules.specs.Place.{starRefused}
 use Rattle.laws.specs.Records.{acceptedIn, accepted-le, accepted-snoc, any-counted}
 use Rattle.laws.specs.FileLength.{records, record-length, records-length, headOf, starsOf-length}

@@ -7,8 +7,8 @@ use writing_plan::finish;
 use writing_plan::tally;
 use writing_plan::write_plan;
 ghost use mathlib.Core.Path.{_≡_};
-ghost use Rattle.rules.specs.StarList.{starsOf};
-ghost use Rattle.rules.specs.StarList.{listWritten, roomAfterWrite};
+ghost use Rattle.rules.specs.ListWriting.{starsOf};
+ghost use Rattle.rules.specs.ListWriting.{listWritten, roomAfterWrite};
 ghost use Rattle.laws.specs.Records.{acceptedIn};
 
 // How many of the entries have a star that is accepted.

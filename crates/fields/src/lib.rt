@@ -13,7 +13,8 @@ ghost use mathlib.Core.Bool.{true};
 ghost use Prim.Native.Nat.{ℕ, _≤_, _+_, _-_};
 ghost use lib.IntN.{ℤ};
 ghost use lib.ListN.{length};
-ghost use Rattle.rules.specs.Lines as rule;
+ghost use Rattle.rules.specs.Numerals as rule;
+ghost use Rattle.rules.specs.Lines.{form, lineOf};
 ghost use Rattle.laws.specs.Lines as law;
 
 // A 0 stands for any digit, every other byte for itself.
@@ -29,7 +30,7 @@ pub fn alike(f: u8, b: u8) -> bool
 // Whether date and time have their form.
 pub fn of_form(s: &[u8]) -> bool
     requires { ⌜ length (now s) ≡ 24 ⌝ }
-    ensures { λ r. ⌜ r ≡ rule.ofForm rule.form (now (s .entry)) ⌝ }
+    ensures { λ r. ⌜ r ≡ rule.ofForm form (now (s .entry)) ⌝ }
 {
     let mut i = 0;
     while i < 24 {
@@ -64,7 +65,7 @@ pub fn difference(s: &[u8]) -> i32
 // Returned: its date, time of day and UT1-UTC; or that it is of another form.
 // Rule: 01, "Dates".
 pub fn line_of(line: &[u8]) -> Line
-    ensures { λ r. ⌜ r ≡ rule.lineOf (now (line .entry)) ⌝ }
+    ensures { λ r. ⌜ r ≡ lineOf (now (line .entry)) ⌝ }
 {
     if line.len() < 24 {
         return Line::Other;

@@ -2,7 +2,8 @@
 use lib.ListN.{getD}
 use lib.IntN.{ℤ, pos}
 use Rattle.rules.specs.declared.Date.{Date}
-use Rattle.rules.specs.Refusals.{Answer, instantsAnswer}
+use Rattle.rules.specs.Refusals.{Answer}
+use Rattle.rules.specs.Answers.{instantsAnswer}
 use Rattle.rules.specs.Dates.{instants}
 use Rattle.answers.specs.Given.{momentOf}
 use Rattle.inner_dates.specs.declared.days.InnerDay.{InnerDay}

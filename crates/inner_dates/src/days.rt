@@ -4,7 +4,7 @@ use rules::Date;
 use rules::Dated;
 use rules::Numbered;
 ghost use mathlib.Core.Path.{_≡_};
-ghost use Rattle.rules.specs.Refusals.{numberedAnswer, datedAnswer};
+ghost use Rattle.rules.specs.Answers.{numberedAnswer, datedAnswer};
 ghost use Rattle.rules.specs.Calendar.{dayOf, dateOf};
 ghost use Rattle.inner_dates.specs.Dates.{inDate, innerDay, innerDate};
 

@@ -5,7 +5,7 @@ use rules::Instants;
 use rules::Moment;
 use rules::Time;
 ghost use mathlib.Core.Path.{_≡_};
-ghost use Rattle.rules.specs.Refusals.{instantsAnswer};
+ghost use Rattle.rules.specs.Answers.{instantsAnswer};
 ghost use Rattle.inner_dates.specs.Dates.{innerInstants, instantsOf};
 
 // The refusal's number and noughts, or 0 and UT, TT.

@@ -6,8 +6,9 @@ use rules::Precessed;
 use rules::Tt;
 ghost use mathlib.Core.Path.{_≡_};
 ghost use lib.IntN.{ℤ};
-ghost use Rattle.rules.specs.Refusals.{precessedAnswer, arguedAnswer, nutatedAnswer};
-ghost use Rattle.rules.specs.Polynomials.{precessionAt, argumentsAt};
+ghost use Rattle.rules.specs.Answers.{precessedAnswer, arguedAnswer, nutatedAnswer};
+ghost use Rattle.rules.specs.Precession.{precessionAt};
+ghost use Rattle.rules.specs.Arguments.{argumentsAt};
 ghost use Rattle.rules.specs.Nutation.{nutationAt};
 ghost use Rattle.inner_earth.specs.Angles.{inTt, innerPrecessed, innerArgued, innerNutated};
 

@@ -16,7 +16,7 @@ use denote.Triple.Statement.{Contract}
 use denote.Triple.Spec.{tripleOf}
 use denote.Triple.Clauses.{ensured, lasts}
 use Rattle.rules.specs.declared.Listed.{Listed}
-use Rattle.rules.specs.Refusals.{listedAnswer}
+use Rattle.rules.specs.Answers.{listedAnswer}
 use Rattle.answers.specs.declared.lists.TurbelicusCounted.{TurbelicusCounted}
 use Rattle.answers.specs.Answers.{countedOut}
 use Rattle.rules.proofs.Listed as L

@@ -10,7 +10,8 @@ use borrow.Author.Tests.{not-false}
 use Rattle.integers.specs.Difference.{eq-of-parts, parts-of-eq, add-is, sub-is, leZ-true}
 use Rattle.integers.specs.Size.{abs-le}
 use Rattle.rules.specs.declared.Date.{Date}
-use Rattle.rules.specs.Calendar.{months, dayCount, dayNumber, dateOfCount, dateOfNumber, yearRefused, monthDays}
+use Rattle.rules.specs.Years.{months}
+use Rattle.rules.specs.Calendar.{dayCount, dayNumber, dateOfCount, dateOfNumber, yearRefused, monthDays}
 use Rattle.rules.specs.Calendar.{dayRefused}
 use Rattle.laws.specs.Ranges.{yes, both-true, both-iff, refused-iff, accepted-iff, Between, between-iff}
 use Rattle.laws.specs.Ranges.{le-of-sizes, in-range, of-range}

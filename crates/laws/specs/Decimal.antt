@@ -9,7 +9,7 @@ use lib.ListN.{length, length-append}
 use lib.IntN.{ℤ, pos, negsuc, natAbs}
 use lib.Signed.{ltZ}
 use borrow.Author.Tests.{lt-ltb, le-ltb, ltb-true, ltb-false}
-use Rattle.rules.specs.Lines.{nought, hyphen}
+use Rattle.rules.specs.Numerals.{nought, hyphen}
 use Rattle.rules.specs.Times.{decimalBefore, decimal}
 use Rattle.laws.specs.Ranges.{true-not-false}
 

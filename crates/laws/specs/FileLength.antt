@@ -7,7 +7,8 @@ use lib.ListN.{length, drop, length-append, length-map}
 use Rattle.rules.specs.declared.Star.{Star}
 use Rattle.rules.specs.declared.Entry.{Entry}
 use Rattle.rules.specs.Bytes.{bytesOf, signedBytes}
-use Rattle.rules.specs.StarList.{countIn, fileLength, recordOf, starsIn, stars, starsOf, fileOf}
+use Rattle.rules.specs.StarList.{countIn, fileLength, recordOf, starsIn, stars}
+use Rattle.rules.specs.ListWriting.{starsOf, fileOf}
 use Rattle.laws.specs.Bytes.{signed-length}
 
 -- ---- lengths

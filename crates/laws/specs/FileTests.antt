@@ -8,7 +8,8 @@ use lib.ListN.{length, getD}
 use lib.Dec.{eqb}
 use borrow.Author.Tests.{eqb-true, eq-eqb, ne-eqb, leb-true, le-leb, lt-leb, not-false}
 use Rattle.rules.specs.Bytes.{part, unsignedAt, sameBytes}
-use Rattle.rules.specs.StarList.{mark, countIn, fileLength, markRefused, countRefused}
+use Rattle.rules.specs.StarList.{mark, countIn, fileLength}
+use Rattle.rules.specs.ListReading.{markRefused, countRefused}
 use Rattle.laws.specs.FileParts.{part-cons, part-none}
 
 -- ---- what each test says

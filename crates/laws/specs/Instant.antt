@@ -17,8 +17,9 @@ use Rattle.rules.specs.declared.Precessed.{Precessed}
 use Rattle.rules.specs.declared.Argued.{Argued}
 use Rattle.rules.specs.declared.Nutated.{Nutated}
 use Rattle.rules.specs.Units.{century, within}
-use Rattle.rules.specs.Polynomials.{instantRefused, angleAt, precession, precessionAt, obliquity, obliquityAt}
-use Rattle.rules.specs.Polynomials.{arguments, argumentsAt}
+use Rattle.rules.specs.Polynomials.{instantRefused, angleAt}
+use Rattle.rules.specs.Precession.{precession, precessionAt, obliquity, obliquityAt}
+use Rattle.rules.specs.Arguments.{arguments, argumentsAt}
 use Rattle.rules.specs.Nutation.{nutation, nutationAt}
 use Rattle.rules.specs.Sun.{sunLongitude, sunLongitudeAt}
 use Rattle.rules.specs.Sidereal.{sidereal, siderealAt}

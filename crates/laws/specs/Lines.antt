@@ -10,8 +10,10 @@ use lib.ListN.{length, take, drop, getD, length-take, length-drop, length-replic
 use lib.Seq.{drop-cons, take-all}
 use borrow.Author.Tests.{leb-true, le-leb, lt-leb, ltb-true, ltb-false}
 use Rattle.rules.specs.declared.Line.{Line}
-use Rattle.rules.specs.Lines.{nought, hyphen, isDigit, digits, form, alike, ofForm, negative, unsigned, ofDigits}
-use Rattle.rules.specs.Lines.{ofNumber, spelled, lineOf}
+use Rattle.rules.specs.Numerals.{nought, hyphen, isDigit, digits, alike, ofForm, negative, unsigned, ofDigits}
+use Rattle.rules.specs.Lines.{form}
+use Rattle.rules.specs.Numerals.{ofNumber, spelled}
+use Rattle.rules.specs.Lines.{lineOf}
 use Rattle.laws.specs.Every.{every-at}
 use Rattle.laws.specs.Ranges.{both-true, true-not-false}
 

@@ -11,8 +11,9 @@ use borrow.Author.Tests.{lt-ltb, le-ltb, ltb-false, eq-eqb, ne-eqb}
 use Rattle.rules.specs.declared.Entry.{Entry}
 use Rattle.rules.specs.declared.Refusal.{Refusal}
 use Rattle.rules.specs.declared.Listed.{Listed}
-use Rattle.rules.specs.StarList.{fileLength, anyRefused, starsOf, roomRefused, writtenOf, listWritten, numbersWritten}
-use Rattle.rules.specs.StarList.{starFrom, countFrom, numberStars, rowRefused}
+use Rattle.rules.specs.StarList.{fileLength, anyRefused}
+use Rattle.rules.specs.ListWriting.{starsOf, roomRefused, writtenOf, listWritten, numbersWritten}
+use Rattle.rules.specs.ListWriting.{starFrom, countFrom, numberStars, rowRefused}
 use Rattle.laws.specs.Records.{or-false, starsFrom-each, each-length}
 
 writes-case : (a b : Bool) (n : ℕ) → a ≡ false → b ≡ false → writtenOf a b n ≡ Listed.Count (fileLength n)

@@ -17,7 +17,7 @@ use Rattle.rules.specs.Rounding.{rnd, modulo}
 use Rattle.rules.specs.Length.{pairSquares}
 use Rattle.rules.specs.Circle.{pair}
 use Rattle.rules.specs.Turning.{Accepted}
-use Rattle.rules.specs.Polynomials.{obliquityRow, obliquity}
+use Rattle.rules.specs.Precession.{obliquityRow, obliquity}
 use Rattle.rules.specs.Nutation.{nutation}
 use Rattle.rules.specs.Sun.{sunLongitude}
 use Rattle.rules.specs.Sidereal.{sidereal, siderealPolynomial}

@@ -12,7 +12,8 @@ use Rattle.rules.specs.declared.Tt.{Tt}
 use Rattle.rules.specs.declared.Term.{Term}
 use Rattle.rules.specs.Units.{unit, −_}
 use Rattle.rules.specs.Rounding.{rnd, rndSize, modulo}
-use Rattle.rules.specs.Polynomials.{step, polynomial, arguments}
+use Rattle.rules.specs.Polynomials.{step, polynomial}
+use Rattle.rules.specs.Arguments.{arguments}
 use Rattle.rules.specs.Length.{rootFrom, root, square, pairSquares, partTo, pairToLength}
 use Rattle.rules.specs.Circle.{radianParts, squareParts, stage, stages, rawSine, rawCosine, pairOfParts, pairToHalf}
 use Rattle.rules.specs.Circle.{exchangedPair, pairToQuarter, inQuarter, folded, pair}

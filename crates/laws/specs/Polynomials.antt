@@ -15,9 +15,12 @@ use Rattle.rules.specs.Rounding.{rnd}
 use Rattle.rules.specs.declared.Tt.{Tt}
 use Rattle.rules.specs.declared.Ut.{Ut}
 use Rattle.rules.specs.declared.Term.{Term}
-use Rattle.rules.specs.Polynomials.{step, polynomial, exact, exactTimesCube, precession, obliquity, arguments}
-use Rattle.rules.specs.Polynomials.{zetaRow, zRow, thetaRow, obliquityRow, moonRow, sunRow, latitudeRow, elongationRow}
-use Rattle.rules.specs.Polynomials.{nodeRow}
+use Rattle.rules.specs.Polynomials.{step, polynomial, exact, exactTimesCube}
+use Rattle.rules.specs.Precession.{precession, obliquity}
+use Rattle.rules.specs.Arguments.{arguments}
+use Rattle.rules.specs.Precession.{zetaRow, zRow, thetaRow, obliquityRow}
+use Rattle.rules.specs.Arguments.{moonRow, sunRow, latitudeRow, elongationRow}
+use Rattle.rules.specs.Arguments.{nodeRow}
 use Rattle.rules.specs.Sun.{meanLongitude, meanLongitudeRow, firstRow, secondRow, thirdRow}
 use Rattle.rules.specs.Nutation.{longitudeAmplitude, obliquityAmplitude}
 use Rattle.rules.specs.Sidereal.{siderealPolynomial, siderealRow}

@@ -13,7 +13,8 @@ use lib.IntN.{ℤ}
 use borrow.Author.Tests.{eq-eqb, ne-eqb, eqb-true, eqb-false}
 use Rattle.rules.specs.declared.Star.{Star}
 use Rattle.rules.specs.Place.{starRefused}
-use Rattle.rules.specs.StarList.{starIn, starsIn, starFrom, starsFrom, anyRefused}
+use Rattle.rules.specs.StarList.{starIn, starsIn, anyRefused}
+use Rattle.rules.specs.ListWriting.{starFrom, starsFrom}
 
 pub or-false : (a b : Bool) → a || b ≡ false → (a ≡ false) × (b ≡ false)
 or-false true b e = absurd (false≢true (sym e))

@@ -20,9 +20,10 @@ use Rattle.rules.specs.declared.Prepared.{Prepared}
 use Rattle.rules.specs.declared.Placed.{Placed}
 use Rattle.rules.specs.declared.Listed.{Listed}
 use Rattle.rules.specs.declared.Starred.{Starred}
-use Rattle.rules.specs.Refusals.{Answer, given, refused, numberedAnswer, datedAnswer, instantsAnswer}
-use Rattle.rules.specs.Refusals.{angleAnswer, precessedAnswer, arguedAnswer, nutatedAnswer, turnedAnswer, placedAnswer}
-use Rattle.rules.specs.Refusals.{listedAnswer, starredAnswer, parts, preparedAnswer}
+use Rattle.rules.specs.Refusals.{Answer, given, refused}
+use Rattle.rules.specs.Answers.{numberedAnswer, datedAnswer, instantsAnswer}
+use Rattle.rules.specs.Answers.{angleAnswer, precessedAnswer, arguedAnswer, nutatedAnswer, turnedAnswer, placedAnswer}
+use Rattle.rules.specs.Answers.{listedAnswer, starredAnswer, parts, preparedAnswer}
 use Rattle.laws.specs.RefusalNumbers.{number-pos, number-one}
 
 -- what is refused has a number that no answer has

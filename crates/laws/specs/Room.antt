@@ -6,7 +6,7 @@ use Prim.Native.Nat.{ℕ, zero, suc, _+_, _-_, _/_, _%_, _≤_, _<_}
 use native.Mathlib.Omega.{arith}
 use lib.ListN.{set, take, drop, length, length-set, take-append-drop}
 use lib.Seq.{take-set-le, drop-set-lt, drop-cons, getD-set-same, sets, sets-eq, length-sets}
-use Rattle.rules.specs.Lines.{nought}
+use Rattle.rules.specs.Numerals.{nought}
 use Rattle.rules.specs.Times.{overlaid}
 use Rattle.laws.specs.Decimal.{lastDigits, length-last-digits}
 

@@ -12,9 +12,11 @@ use Rattle.rules.specs.declared.Star.{Star}
 use Rattle.rules.specs.declared.Entry.{Entry}
 use Rattle.rules.specs.declared.Listed.{Listed}
 use Rattle.rules.specs.Bytes.{ofBytes, bytesOf, part, unsignedAt, signedAt, signedBytes, sameBytes}
-use Rattle.rules.specs.StarList.{mark, countIn, fileLength, starIn, recordOf, starsIn, stars, anyRefused, markRefused}
-use Rattle.rules.specs.StarList.{countRefused, listCount, listRead, freshEntry, leaving, entriesAfterRead, starsOf}
-use Rattle.rules.specs.StarList.{fileOf, listWritten, roomAfterWrite}
+use Rattle.rules.specs.StarList.{mark, countIn, fileLength, starIn, recordOf, starsIn, stars, anyRefused}
+use Rattle.rules.specs.ListReading.{markRefused}
+use Rattle.rules.specs.ListReading.{countRefused, listCount, listRead, freshEntry, leaving, entriesAfterRead}
+use Rattle.rules.specs.ListWriting.{starsOf}
+use Rattle.rules.specs.ListWriting.{fileOf, listWritten, roomAfterWrite}
 use Rattle.laws.specs.Bytes.{Bytes, signed-length}
 use Rattle.laws.specs.FileParts.{drop-bytes, part-part, bytesOf-at, signedBytes-at, signedAt-after}
 use Rattle.laws.specs.FileLength.{records, record-length, headOf, file-is, file-length, stars-length}

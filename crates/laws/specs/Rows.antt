@@ -7,7 +7,8 @@ use native.Mathlib.Omega.{arith}
 use lib.Dec.{ltb}
 use lib.ListN.{length, take, getD}
 use borrow.Author.Tests.{ltb-true, ltb-false, lt-ltb, le-ltb}
-use Rattle.rules.specs.Calendar.{sum, Fall, fall}
+use Rattle.rules.specs.Years.{sum}
+use Rattle.rules.specs.Calendar.{Fall, fall}
 
 -- ---- sums of the first spans
 

@@ -4,12 +4,14 @@ use mathlib.Core.List.{List, [], _∷_}
 use Prim.Native.Nat.{ℕ}
 use Rattle.rules.specs.Units.{same, between, within}
 use Rattle.rules.specs.Refusals.{number}
-use Rattle.rules.specs.Calendar.{leap, months, sum, upFrom, years, daysBefore2000, dayCount, dayNumber}
+use Rattle.rules.specs.Years.{leap, months, sum, upFrom, years}
+use Rattle.rules.specs.Calendar.{daysBefore2000, dayCount, dayNumber}
 use Rattle.rules.specs.Calendar.{yearRefused, monthDays, dayRefused}
 use Rattle.rules.specs.Dates.{taiMinusUtc, beforeStep, lastSecond, timeRefused, msOfDay, utc, utOf, ttOf}
 use Rattle.rules.specs.Dates.{differenceRefused, instants}
-use Rattle.rules.specs.Lines.{isDigit, alike, ofForm, negative, unsigned, ofDigits, ofNumber, spelled, field}
-use Rattle.rules.specs.Lines.{signed, moment, lineOf}
+use Rattle.rules.specs.Numerals.{isDigit, alike, ofForm, negative, unsigned, ofDigits, ofNumber, spelled, field}
+use Rattle.rules.specs.Numerals.{signed}
+use Rattle.rules.specs.Lines.{moment, lineOf}
 use Rattle.rules.specs.Times.{decimalBefore, decimal, refusedLine, threeNumbers, answerLine}
 use Rattle.rules.specs.Times.{printed, before, linesOf, ended, times}
 

@@ -15,7 +15,8 @@ use mir.Facts.{and-yes}
 use borrow.Author.Tests.{eq-eqb, ne-eqb}
 use Rattle.integers.specs.Difference.{posPart, negPart, add-is, eq-of-parts, parts-of-eq, leZ-true, leZ-false}
 use Rattle.rules.specs.Units.{same, −_, +_}
-use Rattle.rules.specs.Calendar.{leap, months, sum, upFrom, years, daysBefore2000, dayCount, dayNumber}
+use Rattle.rules.specs.Years.{leap, months, sum, upFrom, years}
+use Rattle.rules.specs.Calendar.{daysBefore2000, dayCount, dayNumber}
 use Rattle.rules.specs.Dates.{steps, taiMinusUtc, beforeStep}
 use Rattle.laws.specs.Every.{every-at}
 use Rattle.laws.specs.Ranges.{yes, true-not-false, le-of-sizes, same-iff}

@@ -12,9 +12,11 @@ use borrow.Author.Tests.{lt-ltb, le-ltb, ltb-false}
 use Rattle.rules.specs.declared.Entry.{Entry}
 use Rattle.rules.specs.declared.Refusal.{Refusal}
 use Rattle.rules.specs.declared.Listed.{Listed}
-use Rattle.rules.specs.StarList.{countIn, fileLength, stars, anyRefused, markRefused, countRefused, listCount}
-use Rattle.rules.specs.StarList.{readInto, listRead, leaving, entriesAfterRead, listWritten, roomAfterWrite}
-use Rattle.rules.specs.StarList.{numbersWritten, roomAfterNumbers}
+use Rattle.rules.specs.StarList.{countIn, fileLength, stars, anyRefused}
+use Rattle.rules.specs.ListReading.{markRefused, countRefused, listCount}
+use Rattle.rules.specs.ListReading.{readInto, listRead, leaving, entriesAfterRead}
+use Rattle.rules.specs.ListWriting.{listWritten, roomAfterWrite}
+use Rattle.rules.specs.ListWriting.{numbersWritten, roomAfterNumbers}
 use Rattle.laws.specs.FileTests.{counted}
 
 -- ---- the answers, exactly when: 9, 10, 5, then 11

@@ -10,7 +10,8 @@ use Rattle.integers.specs.Ring.{ring, v0, lit, _⊗_}
 use Rattle.integers.specs.Size.{abs-add, abs-mul}
 use Rattle.rules.specs.declared.Tt.{Tt}
 use Rattle.rules.specs.Units.{unit}
-use Rattle.rules.specs.Polynomials.{polynomial, arguments}
+use Rattle.rules.specs.Polynomials.{polynomial}
+use Rattle.rules.specs.Arguments.{arguments}
 use Rattle.rules.specs.Circle.{pair}
 use Rattle.rules.specs.Sun.{firstRow, secondRow, thirdRow, meanLongitudeRow, meanLongitude, centreProduct, centreSum}
 use Rattle.rules.specs.Sun.{centre, sunLongitude}

@@ -20,7 +20,7 @@ use Rattle.rules.specs.Units.{century}
 use Rattle.rules.specs.Refusals.{number}
 use Rattle.rules.specs.Calendar.{dayNumber, yearRefused, dayRefused, dayOf}
 use Rattle.rules.specs.Dates.{timeRefused, differenceRefused, utOf, ttOf, instants}
-use Rattle.rules.specs.Lines.{space}
+use Rattle.rules.specs.Numerals.{space}
 use Rattle.rules.specs.Times.{decimal, refusedLine, threeNumbers, answerLine, printed}
 use Rattle.laws.specs.Ranges.{true-not-false}
 use Rattle.laws.specs.DayNumbers.{real-number-le}

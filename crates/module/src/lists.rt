@@ -8,8 +8,9 @@ use answers::lists::counted_out;
 use answers::lists::starred_out;
 use answers::lists::written_out;
 ghost use mathlib.Core.Path.{_≡_};
-ghost use Rattle.rules.specs.Refusals.{listedAnswer, starredAnswer};
-ghost use Rattle.rules.specs.StarList.{listCount, listStar, numbersWritten, roomAfterNumbers};
+ghost use Rattle.rules.specs.Answers.{listedAnswer, starredAnswer};
+ghost use Rattle.rules.specs.ListReading.{listCount, listStar};
+ghost use Rattle.rules.specs.ListWriting.{numbersWritten, roomAfterNumbers};
 ghost use Rattle.answers.specs.Answers.{countedOut, starredOut, writtenOut};
 
 // How many records a list file has.

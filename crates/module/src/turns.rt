@@ -5,7 +5,7 @@ use answers::turns::turned_out;
 use rules::Direction;
 ghost use mathlib.Core.Path.{_≡_};
 ghost use lib.IntN.{ℤ};
-ghost use Rattle.rules.specs.Refusals.{turnedAnswer};
+ghost use Rattle.rules.specs.Answers.{turnedAnswer};
 ghost use Rattle.rules.specs.Turning as rule;
 ghost use Rattle.rules.specs.Reading.{reading};
 ghost use Rattle.answers.specs.Given.{directionOf};

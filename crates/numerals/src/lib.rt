@@ -5,7 +5,7 @@ ghost use mathlib.Core.Bool.{true};
 ghost use Prim.Native.Nat.{ℕ, _≤_, _+_, _-_};
 ghost use lib.IntN.{ℤ, pos, natAbs};
 ghost use lib.ListN.{length};
-ghost use Rattle.rules.specs.Lines as rule;
+ghost use Rattle.rules.specs.Numerals as rule;
 ghost use Rattle.laws.specs.Lines as law;
 
 pub fn is_digit(b: u8) -> bool

@@ -14,7 +14,7 @@ use rules::Term;
 use rules::Tt;
 use units::UNIT;
 ghost use mathlib.Core.Path.{_≡_};
-ghost use Rattle.rules.specs.Polynomials as rule;
+ghost use Rattle.rules.specs.Arguments as rule;
 ghost use Rattle.rules.specs.Nutation.{termAngle, nutation, nutationAt};
 ghost use Rattle.laws.specs.Instant.{InRange};
 ghost use Rattle.nutation_terms.specs.Terms.{productsOf};

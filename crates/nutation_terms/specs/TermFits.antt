@@ -10,7 +10,7 @@ use mir.Facts.{and-yes}
 use Rattle.rules.specs.declared.Tt.{Tt}
 use Rattle.rules.specs.declared.Arguments.{Arguments}
 use Rattle.rules.specs.declared.Term.{Term}
-use Rattle.rules.specs.Polynomials.{moonRow, sunRow, latitudeRow, elongationRow, nodeRow, arguments}
+use Rattle.rules.specs.Arguments.{moonRow, sunRow, latitudeRow, elongationRow, nodeRow, arguments}
 use Rattle.rules.specs.Nutation.{terms, longitudeAmplitude, obliquityAmplitude}
 use Rattle.laws.specs.Instant.{InRange}
 use Rattle.laws.specs.Polynomials.{sizes, polynomial-le}

@@ -11,7 +11,7 @@ use Rattle.rules.specs.declared.Starred.{Starred}
 use Rattle.rules.specs.Refusals.{number}
 use Rattle.rules.specs.Times.{refusedLine}
 use Rattle.rules.specs.Night.{nightOf}
-use Rattle.rules.specs.StarList.{freshEntry, listCount, listStar}
+use Rattle.rules.specs.ListReading.{freshEntry, listCount, listStar}
 use Rattle.rules.specs.NightList.{worked}
 use Rattle.asking.specs.declared.Asked.{Asked}
 use Rattle.place_lines.specs.declared.Begun.{Begun}

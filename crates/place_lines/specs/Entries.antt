@@ -17,7 +17,7 @@ use Rattle.rules.specs.declared.Listed.{Listed}
 use Rattle.rules.specs.declared.Starred.{Starred}
 use Rattle.rules.specs.Dates.{instants}
 use Rattle.rules.specs.Night.{siteRefused, night, nightAt, nightOf}
-use Rattle.rules.specs.StarList.{listCount, starAt, listStar}
+use Rattle.rules.specs.ListReading.{listCount, starAt, listStar}
 use Rattle.laws.specs.Ranges.{true-not-false}
 use Rattle.laws.specs.Instants.{tt-within}
 use Rattle.laws.specs.Night.{NightFits, night-fits}

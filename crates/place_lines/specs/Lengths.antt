@@ -13,7 +13,7 @@ use Rattle.rules.specs.declared.Starred.{Starred}
 use Rattle.rules.specs.Units.{circle}
 use Rattle.rules.specs.Refusals.{number}
 use Rattle.rules.specs.Place.{starRefused, apparent, overhead, readings, placeIn}
-use Rattle.rules.specs.StarList.{noughts, freshEntry, listStar}
+use Rattle.rules.specs.ListReading.{noughts, freshEntry, listStar}
 use Rattle.rules.specs.NightList.{worked}
 use Rattle.laws.specs.UpTo.{UpTo}
 use Rattle.laws.specs.ReadingRange.{reading-range}

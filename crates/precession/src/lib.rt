@@ -8,7 +8,7 @@ use rules::Precession;
 use rules::Refusal;
 use rules::Tt;
 ghost use mathlib.Core.Path.{_≡_};
-ghost use Rattle.rules.specs.Polynomials.{precession, precessionAt, obliquity, obliquityAt};
+ghost use Rattle.rules.specs.Precession.{precession, precessionAt, obliquity, obliquityAt};
 ghost use Rattle.laws.specs.Instant.{InRange};
 
 // The three angles of precession from J2000.

@@ -20,8 +20,10 @@ use Rattle.rules.specs.declared.Placed.{Placed}
 use Rattle.rules.specs.Units.{circle, quarter, century, unit}
 use Rattle.rules.specs.Circle.{pair}
 use Rattle.rules.specs.Series.{whole, radian, series}
-use Rattle.rules.specs.Polynomials.{polynomial, exactTimesCube, precession, zetaRow, zRow, thetaRow, obliquity}
-use Rattle.rules.specs.Polynomials.{obliquityRow, arguments, moonRow, sunRow, latitudeRow, elongationRow, nodeRow}
+use Rattle.rules.specs.Polynomials.{polynomial, exactTimesCube}
+use Rattle.rules.specs.Precession.{precession, zetaRow, zRow, thetaRow, obliquity}
+use Rattle.rules.specs.Precession.{obliquityRow}
+use Rattle.rules.specs.Arguments.{arguments, moonRow, sunRow, latitudeRow, elongationRow, nodeRow}
 use Rattle.rules.specs.Sun.{meanLongitude, meanLongitudeRow, firstRow, secondRow, thirdRow}
 use Rattle.rules.specs.Nutation.{longitudeAmplitude, obliquityAmplitude}
 use Rattle.rules.specs.Sidereal.{siderealPolynomial, siderealRow}

@@ -10,7 +10,8 @@ use Rattle.rules.specs.Units.{halfQuarter}
 use Rattle.rules.specs.Rounding.{rnd, rndSize, modulo}
 use Rattle.rules.specs.Circle.{radianParts, squareParts, stage, stages, rawSine, rawCosine, pairOfParts}
 use Rattle.rules.specs.Length.{square, pairSquares, rootFrom, root, partTo, pairToLength}
-use Rattle.rules.specs.Polynomials.{step, polynomial, precession}
+use Rattle.rules.specs.Polynomials.{step, polynomial}
+use Rattle.rules.specs.Precession.{precession}
 use Rattle.rules.specs.Sidereal.{siderealPolynomial, sidereal}
 use Rattle.laws.specs.Rounding.{rnd-neg}
 

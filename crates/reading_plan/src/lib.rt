@@ -12,7 +12,8 @@ use units::RECORD;
 ghost use mathlib.Core.Path.{_≡_};
 ghost use lib.ListN.{length, drop};
 ghost use Prim.Native.Nat.{_+_, _*_, _≤_};
-ghost use Rattle.rules.specs.StarList.{starIn, freshEntry};
+ghost use Rattle.rules.specs.StarList.{starIn};
+ghost use Rattle.rules.specs.ListReading.{freshEntry};
 ghost use Rattle.star_file.specs.Plans.{readPlan};
 
 // The checks of reading into `room` entries: 9, 10, 5, then 11.

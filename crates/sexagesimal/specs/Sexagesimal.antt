@@ -6,7 +6,7 @@ use mathlib.Core.List.{List, _∷_, _++_}
 use lib.IntN.{ℤ, pos, natAbs}
 use lib.Signed.{ltZ}
 use Rattle.rules.specs.Rounding.{rnd, modulo}
-use Rattle.rules.specs.Lines.{space, hyphen, point, colon}
+use Rattle.rules.specs.Numerals.{space, hyphen, point, colon}
 use Rattle.laws.specs.Decimal.{lastDigits}
 
 -- a space, then bytes

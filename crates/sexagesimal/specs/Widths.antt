@@ -6,7 +6,7 @@ use native.Mathlib.Omega.{arith}
 use lib.IntN.{ℤ, natAbs}
 use lib.ListN.{length, length-append}
 use Rattle.rules.specs.Rounding.{rnd}
-use Rattle.rules.specs.Lines.{colon, point}
+use Rattle.rules.specs.Numerals.{colon, point}
 use Rattle.laws.specs.Decimal.{lastDigits, length-last-digits}
 use Rattle.sexagesimal.specs.Sexagesimal.{marked, clock, sexagesimal, roundIn, hours, bearing, elevation}
 

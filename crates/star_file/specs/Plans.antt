@@ -2,7 +2,8 @@
 use Prim.Native.Nat.{ℕ}
 use mathlib.Core.List.{List}
 use Rattle.rules.specs.declared.Listed.{Listed}
-use Rattle.rules.specs.StarList.{countIn, listCount, readInto, leaving}
+use Rattle.rules.specs.StarList.{countIn}
+use Rattle.rules.specs.ListReading.{listCount, readInto, leaving}
 use Rattle.star_file.specs.declared.Plan.{Plan}
 
 -- an answer, and so many records where it is a count, none where it is a refusal

@@ -13,8 +13,9 @@ use units::RECORD;
 ghost use mathlib.Core.Path.{_≡_};
 ghost use lib.ListN.{length, drop};
 ghost use Prim.Native.Nat.{_+_, _*_, _≤_};
-ghost use Rattle.rules.specs.StarList.{starIn, starsIn, anyRefused, markRefused, listCount};
-ghost use Rattle.rules.specs.StarList.{listStar};
+ghost use Rattle.rules.specs.StarList.{starIn, starsIn, anyRefused};
+ghost use Rattle.rules.specs.ListReading.{markRefused, listCount};
+ghost use Rattle.rules.specs.ListReading.{listStar};
 
 // The star of the record that starts at `at`.
 pub fn star_at(file: &[u8], at: usize) -> Star

@@ -9,8 +9,9 @@ use lib.ListN.{length, getD, drop, length-append, length-map, length-drop}
 use lib.Seq.{drop-drop, getD-append-seam}
 use Rattle.rules.specs.declared.Entry.{Entry}
 use Rattle.rules.specs.declared.Listed.{Listed}
-use Rattle.rules.specs.StarList.{countIn, fileLength, starIn, starsIn, stars, listCount, readInto, listRead, freshEntry}
-use Rattle.rules.specs.StarList.{leaving, entriesAfterRead}
+use Rattle.rules.specs.StarList.{countIn, fileLength, starIn, starsIn, stars}
+use Rattle.rules.specs.ListReading.{listCount, readInto, listRead, freshEntry}
+use Rattle.rules.specs.ListReading.{leaving, entriesAfterRead}
 use Rattle.laws.specs.Records.{starsIn-each, each-nth}
 use Rattle.laws.specs.FileLength.{stars-length}
 use Rattle.laws.specs.FileTests.{counted}

@@ -6,7 +6,7 @@ use rules::Entry;
 use rules::Listed;
 use star_file::answer_of;
 ghost use mathlib.Core.Path.{_≡_};
-ghost use Rattle.rules.specs.StarList.{listRead, entriesAfterRead};
+ghost use Rattle.rules.specs.ListReading.{listRead, entriesAfterRead};
 
 // A list file read into entries.
 //

@@ -7,7 +7,8 @@ use lib.ListN.{length, getD, drop, length-append}
 use lib.Seq.{getD-drop}
 use lib.IntN.{ℤ, pos}
 use Rattle.rules.specs.declared.Star.{Star}
-use Rattle.rules.specs.StarList.{fileLength, recordOf, fileOf, starFrom}
+use Rattle.rules.specs.StarList.{fileLength, recordOf}
+use Rattle.rules.specs.ListWriting.{fileOf, starFrom}
 use Rattle.laws.specs.ByteByByte.{lowBytes, low-bytes, low-length}
 use Rattle.laws.specs.StarWidths.{StarFits, AllFit}
 use Rattle.laws.specs.FileLength.{records, headOf, file-is, file-length, records-length}

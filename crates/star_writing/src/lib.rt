@@ -11,8 +11,9 @@ use units::RECORD;
 ghost use mathlib.Core.Path.{_≡_};
 ghost use lib.ListN.{length};
 ghost use Prim.Native.Nat.{_+_, _*_, _≤_};
-ghost use Rattle.rules.specs.StarList.{anyRefused, starsFrom};
-ghost use Rattle.rules.specs.StarList.{numbersWritten, roomAfterNumbers};
+ghost use Rattle.rules.specs.StarList.{anyRefused};
+ghost use Rattle.rules.specs.ListWriting.{starsFrom};
+ghost use Rattle.rules.specs.ListWriting.{numbersWritten, roomAfterNumbers};
 ghost use Rattle.star_bytes.specs.Puts.{put};
 ghost use Rattle.star_records.specs.Records.{lowRecords};
 

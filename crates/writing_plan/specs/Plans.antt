@@ -4,7 +4,7 @@ use Prim.Native.Nat.{ℕ, _≤_}
 use mathlib.Core.Bool.{not}
 use lib.Dec.{eqb}
 use Rattle.rules.specs.declared.Listed.{Listed}
-use Rattle.rules.specs.StarList.{roomRefused, writtenOf}
+use Rattle.rules.specs.ListWriting.{roomRefused, writtenOf}
 use Rattle.star_file.specs.declared.Plan.{Plan}
 use Rattle.star_file.specs.Plans.{planOf}
 

@@ -14,7 +14,7 @@ ghost use mathlib.Core.Bool.{cond};
 ghost use lib.ListN.{length};
 ghost use Prim.Native.Nat.{_+_, _<_, _^_};
 ghost use Rattle.rules.specs.Place.{starRefused};
-ghost use Rattle.rules.specs.StarList.{leaving};
+ghost use Rattle.rules.specs.ListReading.{leaving};
 ghost use Rattle.laws.specs.FileLength.{headOf};
 ghost use Rattle.writing_plan.specs.Plans.{Ready, writePlan};
 ghost use Rattle.star_bytes.specs.Puts.{put};

@@ -4,7 +4,7 @@ ghost use mathlib.Core.Path.{_≡_};
 ghost use Prim.Native.Nat.{_<_, _≤_, _-_};
 ghost use lib.IntN.{pos, natAbs};
 ghost use lib.ListN.{getD, take};
-ghost use Rattle.rules.specs.Calendar as rule;
+ghost use Rattle.rules.specs.Years as rule;
 ghost use Rattle.laws.specs.Ranges.{InRange};
 ghost use Rattle.laws.specs.Calendar.{row};
 

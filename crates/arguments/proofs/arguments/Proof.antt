@@ -4,7 +4,8 @@ use mathlib.Core.Bool.{true, false}
 use borrow.Author.Needs.{needs, sfits-of}
 use mir.Syntax.{w64}
 use mir.Facts.{toZ-ofZ}
-use Rattle.rules.specs.Polynomials.{instantRefused, argumentsAt}
+use Rattle.rules.specs.Polynomials.{instantRefused}
+use Rattle.rules.specs.Arguments.{argumentsAt}
 use Rattle.laws.specs.Instant.{in-range}
 use Rattle.arguments.proofs.arguments.Statement.{statement}
 use Rattle.arguments.proofs.arguments.Tie as tie

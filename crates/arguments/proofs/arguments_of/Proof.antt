@@ -3,7 +3,8 @@ use mathlib.Core.Path.{_≡_, _∙_}
 use borrow.Author.Needs.{needs}
 use mir.Syntax.{w64}
 use mir.Val.{toZ, ofZ}
-use Rattle.rules.specs.Polynomials.{moonRow, sunRow, latitudeRow, elongationRow, nodeRow, polynomial, arguments}
+use Rattle.rules.specs.Polynomials.{polynomial}
+use Rattle.rules.specs.Arguments.{moonRow, sunRow, latitudeRow, elongationRow, nodeRow, arguments}
 use Rattle.polynomials.proofs.Held.{instant-held}
 use Rattle.arguments.proofs.arguments_of.Statement.{statement}
 use Rattle.arguments.proofs.arguments_of.Tie as tie

@@ -3,7 +3,7 @@ use mathlib.Core.Path.{_≡_, _∙_}
 use borrow.Author.Needs.{needs}
 use mir.Syntax.{w64}
 use mir.Val.{toZ, ofZ}
-use Rattle.rules.specs.Polynomials.{arguments}
+use Rattle.rules.specs.Arguments.{arguments}
 use Rattle.polynomials.proofs.Held.{instant-held}
 use Rattle.arguments.proofs.sun_of.Statement.{statement}
 use Rattle.arguments.proofs.sun_of.Tie as tie

@@ -13,7 +13,7 @@ use borrow.Author.Needs.{needs, sfits-of}
 use borrow.Author.Tests.{not-true, not-false}
 use Rattle.words.specs.Holds.{bits}
 use Rattle.rules.specs.declared.Site.{Site}
-use Rattle.rules.specs.Lines.{unsigned, ofNumber, signed}
+use Rattle.rules.specs.Numerals.{unsigned, ofNumber, signed}
 use Rattle.laws.specs.Lines.{of-digits-le}
 use Rattle.asking.specs.declared.Asked.{Asked}
 use Rattle.asking.specs.Asking.{wordLength, firstWord, afterWord, ofSite, siteIn, withSite}

@@ -6,7 +6,7 @@ use Rattle.rules.specs.declared.Star.{Star}
 use Rattle.rules.specs.declared.Place.{Place}
 use Rattle.rules.specs.declared.Entry.{Entry}
 use Rattle.rules.specs.Place.{starRefused}
-use Rattle.rules.specs.StarList.{freshEntry}
+use Rattle.rules.specs.ListReading.{freshEntry}
 use Rattle.rules.specs.NightList as nights
 use Rattle.entries.proofs.worked.Statement.{statement}
 use Rattle.entries.proofs.worked.Tie as tie

@@ -53,7 +53,7 @@ use denote.Triple.Walked.{says, Stays, stay-none-slice, walkOf, goes-none-slice,
 use denote.Triple.Clauses.{ensured, lasts}
 use denote.Exit.{yes}
 use Rattle.rules.specs.declared.Entry.{Entry}
-use Rattle.rules.specs.StarList.{starsOf}
+use Rattle.rules.specs.ListWriting.{starsOf}
 use Rattle.laws.specs.Records.{acceptedIn}
 use Rattle.star_list.proofs.Lists.{snoc-length}
 use Rattle.entries_writing.proofs.Writing.{acceptedOne, acceptedAll, accepted-most, accepted-more}

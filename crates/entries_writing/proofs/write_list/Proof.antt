@@ -58,7 +58,9 @@ use denote.Exit.{yes}
 use denote.Enum.Laws as EL
 use Rattle.rules.specs.declared.Entry.{Entry}
 use Rattle.rules.specs.declared.Listed.{Listed}
-use Rattle.rules.specs.StarList.{recordOf, leaving, roomAfterWrite}
+use Rattle.rules.specs.StarList.{recordOf}
+use Rattle.rules.specs.ListReading.{leaving}
+use Rattle.rules.specs.ListWriting.{roomAfterWrite}
 use Rattle.laws.specs.FileLength.{headOf}
 use Rattle.star_file.specs.declared.Plan.{Plan}
 use Rattle.writing_plan.specs.Plans.{writePlan, Ready}

@@ -1,7 +1,7 @@
 -- `fields::alike` meets its contract.
 use mathlib.Core.Path.{sym, _∙_}
 use borrow.Author.Needs.{needs}
-use Rattle.rules.specs.Lines.{alike}
+use Rattle.rules.specs.Numerals.{alike}
 use Rattle.fields.proofs.alike.Statement.{statement}
 use Rattle.fields.proofs.alike.Tie as tie
 

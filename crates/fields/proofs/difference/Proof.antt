@@ -10,7 +10,7 @@ use mir.Facts.{toZ-ofZ}
 use borrow.Author.Needs.{sfits-of}
 use Rattle.words.specs.Holds.{bits}
 use Rattle.words.specs.Fits.{fits32}
-use Rattle.rules.specs.Lines.{unsigned, ofNumber}
+use Rattle.rules.specs.Numerals.{unsigned, ofNumber}
 use Rattle.laws.specs.Lines.{of-digits-le, most-le}
 use Rattle.fields.proofs.difference.Statement.{statement}
 use Rattle.fields.proofs.difference.Tie as tie

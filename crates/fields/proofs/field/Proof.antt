@@ -11,7 +11,7 @@ use mir.Facts.{toZ-ofZ}
 use borrow.Author.Needs.{needs, sfits-of}
 use Rattle.words.specs.Holds.{bits}
 use Rattle.words.specs.Fits.{fits32}
-use Rattle.rules.specs.Lines.{field}
+use Rattle.rules.specs.Numerals.{field}
 use Rattle.laws.specs.Lines.{most, most-le}
 use Rattle.fields.proofs.field.Statement.{statement}
 use Rattle.fields.proofs.field.Tie as tie

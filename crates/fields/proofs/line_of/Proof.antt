@@ -12,7 +12,8 @@ use mir.Facts.{toZ-ofZ}
 use borrow.Author.Needs.{needs, sfits-of}
 use borrow.Author.Tests.{not-true, not-false}
 use Rattle.rules.specs.declared.Line.{Line}
-use Rattle.rules.specs.Lines.{form, ofForm, ofNumber, field, signed, moment, lineOf}
+use Rattle.rules.specs.Numerals.{ofForm, ofNumber, field, signed}
+use Rattle.rules.specs.Lines.{form, moment, lineOf}
 use Rattle.laws.specs.Lines.{form-short, to-end}
 use Rattle.fields.proofs.line_of.Statement.{statement}
 use Rattle.fields.proofs.line_of.Tie as tie

@@ -7,7 +7,8 @@ use native.Mathlib.Omega.{arith}
 use lib.ListN.{length, getD, drop}
 use borrow.Author.Needs.{needs}
 use borrow.Author.Tests.{not-true, not-false}
-use Rattle.rules.specs.Lines.{form, alike, ofForm}
+use Rattle.rules.specs.Numerals.{alike, ofForm}
+use Rattle.rules.specs.Lines.{form}
 use Rattle.laws.specs.Lines.{form-step, form-end}
 use Rattle.fields.proofs.of_form.Statement.{statement}
 use Rattle.fields.proofs.of_form.Tie as tie

@@ -43,8 +43,8 @@ use denote.Triple.Clauses.{ensured, lasts}
 use denote.Exit.{yes}
 use Rattle.rules.specs.declared.Entry.{Entry}
 use Rattle.rules.specs.declared.Listed.{Listed}
-use Rattle.rules.specs.Refusals.{listedAnswer}
-use Rattle.rules.specs.StarList.{listRead, entriesAfterRead}
+use Rattle.rules.specs.Answers.{listedAnswer}
+use Rattle.rules.specs.ListReading.{listRead, entriesAfterRead}
 use Rattle.answers.specs.declared.lists.TurbelicusCounted.{TurbelicusCounted}
 use Rattle.answers.specs.Answers.{countedOut}
 use Rattle.inner_lists.proofs.Answering.{LR, OR, Out, out-told, to-out, goes-out}

@@ -45,7 +45,7 @@ use denote.Triple.Clauses.{ensured, lasts}
 use denote.Exit.{yes}
 use Rattle.rules.specs.declared.Entry.{Entry}
 use Rattle.rules.specs.declared.Listed.{Listed}
-use Rattle.rules.specs.Refusals.{listedAnswer}
+use Rattle.rules.specs.Answers.{listedAnswer}
 use Rattle.rules.specs.declared.Moment.{Moment}
 use Rattle.rules.specs.declared.Site.{Site}
 use Rattle.rules.specs.NightList.{nightList, entriesAfterNight}

@@ -13,7 +13,7 @@ use Rattle.rules.specs.declared.Site.{Site}
 use Rattle.rules.specs.Units.{half, quarter, unit}
 use Rattle.rules.specs.Rounding.{remainder}
 use Rattle.rules.specs.Circle.{pair}
-use Rattle.rules.specs.Polynomials.{precession, obliquity}
+use Rattle.rules.specs.Precession.{precession, obliquity}
 use Rattle.rules.specs.Nutation.{nutation}
 use Rattle.rules.specs.Sun.{sunLongitude}
 use Rattle.rules.specs.Night.{aberration, localSidereal, night}

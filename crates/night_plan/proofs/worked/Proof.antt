@@ -1,7 +1,7 @@
 -- `night_plan::worked` meets its contract.
 use mathlib.Core.Path.{subst}
 use borrow.Author.Needs.{needs}
-use Rattle.rules.specs.StarList.{freshEntry}
+use Rattle.rules.specs.ListReading.{freshEntry}
 use Rattle.rules.specs.NightList.{worked}
 use Rattle.night_plan.specs.Plans.{workedBy, PreparedFits}
 use Rattle.night_plan.proofs.worked.Statement.{statement}

@@ -1,6 +1,6 @@
 -- `numerals::is_digit` meets its contract.
 use borrow.Author.Tests.{le-leb, lt-leb}
-use Rattle.rules.specs.Lines.{isDigit}
+use Rattle.rules.specs.Numerals.{isDigit}
 use Rattle.numerals.proofs.is_digit.Statement.{statement}
 use Rattle.numerals.proofs.is_digit.Tie as tie
 

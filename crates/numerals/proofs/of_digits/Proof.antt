@@ -7,7 +7,7 @@ use native.Mathlib.Omega.{arith}
 use lib.ListN.{length, getD, drop, length-replicate}
 use borrow.Author.Needs.{needs}
 use borrow.Author.Tests.{not-true, not-false, le-leb, lt-leb}
-use Rattle.rules.specs.Lines.{nought, isDigit, digits, ofForm, ofDigits}
+use Rattle.rules.specs.Numerals.{nought, isDigit, digits, ofForm, ofDigits}
 use Rattle.laws.specs.Lines.{digits-step, form-end}
 use Rattle.numerals.proofs.of_digits.Statement.{statement}
 use Rattle.numerals.proofs.of_digits.Tie as tie

@@ -4,7 +4,7 @@ use mathlib.Core.Bool.{Bool, true, false}
 use Prim.Native.Nat.{_≤_}
 use lib.ListN.{length}
 use borrow.Author.Needs.{needs}
-use Rattle.rules.specs.Lines.{negative, ofDigits, ofNumber}
+use Rattle.rules.specs.Numerals.{negative, ofDigits, ofNumber}
 use Rattle.laws.specs.Lines.{negative-length, to-end, unsigned-is}
 use Rattle.numerals.proofs.of_number.Statement.{statement}
 use Rattle.numerals.proofs.of_number.Tie as tie

@@ -11,7 +11,7 @@ use mir.Facts.{toZ-ofZ}
 use borrow.Author.Needs.{needs, sfits-of}
 use Rattle.integers.specs.Size.{abs-neg}
 use Rattle.words.specs.Holds.{Holds, bits, got, negate, negate-ok}
-use Rattle.rules.specs.Lines.{negative, unsigned, spelled, signed}
+use Rattle.rules.specs.Numerals.{negative, unsigned, spelled, signed}
 use Rattle.laws.specs.Lines.{negative-length, to-end, unsigned-is, most, most-le-12}
 use Rattle.numerals.proofs.signed.Statement.{statement}
 use Rattle.numerals.proofs.signed.Tie as tie

@@ -8,7 +8,7 @@ use lib.IntN.{pos}
 use lib.ListN.{length, getD, drop}
 use borrow.Author.Needs.{needs}
 use Rattle.words.specs.Holds.{Holds, bits, _*ʷ_, nat, lit, got, add-ok, mul, mul-ok}
-use Rattle.rules.specs.Lines.{spelled}
+use Rattle.rules.specs.Numerals.{spelled}
 use Rattle.laws.specs.Lines.{spelled-step, spelled-end, most, most-suc, most-le-12}
 use Rattle.numerals.proofs.spelled.Statement.{statement}
 use Rattle.numerals.proofs.spelled.Tie as tie

@@ -10,7 +10,8 @@ use Rattle.rules.specs.declared.Pair.{Pair}
 use Rattle.rules.specs.declared.Arguments.{Arguments}
 use Rattle.rules.specs.Units.{unit}
 use Rattle.rules.specs.Circle.{pair}
-use Rattle.rules.specs.Polynomials.{polynomial, arguments}
+use Rattle.rules.specs.Polynomials.{polynomial}
+use Rattle.rules.specs.Arguments.{arguments}
 use Rattle.rules.specs.Nutation.{termAngle, longitudeAmplitude, obliquityAmplitude, longitudeProduct, obliquityProduct}
 use Rattle.laws.specs.Polynomials.{polynomial-le}
 use Rattle.laws.specs.Angles.{pair-sized}

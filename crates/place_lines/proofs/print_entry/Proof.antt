@@ -11,7 +11,7 @@ use Rattle.rules.specs.declared.Star.{Star}
 use Rattle.rules.specs.declared.Starred.{Starred}
 use Rattle.rules.specs.Refusals.{number}
 use Rattle.rules.specs.Times.{decimal}
-use Rattle.rules.specs.StarList.{listStar}
+use Rattle.rules.specs.ListReading.{listStar}
 use Rattle.laws.specs.Times.{refusedText, refused-line-is}
 use Rattle.entry_lines.specs.EntryLine.{entryLine}
 use Rattle.place_lines.specs.Answers.{starLine, answerLine}

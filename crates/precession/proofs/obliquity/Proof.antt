@@ -5,7 +5,8 @@ use borrow.Author.Needs.{needs, sfits-of}
 use mir.Syntax.{w64}
 use mir.Val.{toZ, ofZ}
 use mir.Facts.{toZ-ofZ}
-use Rattle.rules.specs.Polynomials.{instantRefused, angleAt, obliquity, obliquityAt}
+use Rattle.rules.specs.Polynomials.{instantRefused, angleAt}
+use Rattle.rules.specs.Precession.{obliquity, obliquityAt}
 use Rattle.laws.specs.Instant.{in-range}
 use Rattle.precession.proofs.obliquity.Statement.{statement}
 use Rattle.precession.proofs.obliquity.Tie as tie

@@ -3,7 +3,7 @@ use mathlib.Core.Path.{_≡_, _∙_}
 use borrow.Author.Needs.{needs}
 use mir.Syntax.{w64}
 use mir.Val.{toZ, ofZ}
-use Rattle.rules.specs.Polynomials.{obliquity}
+use Rattle.rules.specs.Precession.{obliquity}
 use Rattle.polynomials.proofs.Held.{instant-held}
 use Rattle.precession.proofs.obliquity_of.Statement.{statement}
 use Rattle.precession.proofs.obliquity_of.Tie as tie

@@ -4,7 +4,8 @@ use mathlib.Core.Bool.{true, false}
 use borrow.Author.Needs.{needs, sfits-of}
 use mir.Syntax.{w64}
 use mir.Facts.{toZ-ofZ}
-use Rattle.rules.specs.Polynomials.{instantRefused, precessionAt}
+use Rattle.rules.specs.Polynomials.{instantRefused}
+use Rattle.rules.specs.Precession.{precessionAt}
 use Rattle.laws.specs.Instant.{in-range}
 use Rattle.precession.proofs.precession.Statement.{statement}
 use Rattle.precession.proofs.precession.Tie as tie

@@ -3,7 +3,8 @@ use mathlib.Core.Path.{_≡_, _∙_}
 use borrow.Author.Needs.{needs}
 use mir.Syntax.{w64}
 use mir.Val.{toZ, ofZ}
-use Rattle.rules.specs.Polynomials.{zetaRow, zRow, thetaRow, polynomial, precession}
+use Rattle.rules.specs.Polynomials.{polynomial}
+use Rattle.rules.specs.Precession.{zetaRow, zRow, thetaRow, precession}
 use Rattle.polynomials.proofs.Held.{instant-held}
 use Rattle.precession.proofs.precession_of.Statement.{statement}
 use Rattle.precession.proofs.precession_of.Tie as tie

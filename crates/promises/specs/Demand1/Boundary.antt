@@ -13,10 +13,13 @@ use Rattle.rules.specs.declared.Place.{Place}
 use Rattle.rules.specs.declared.Direction.{Direction}
 use Rattle.rules.specs.declared.Refusal.{Refusal}
 use Rattle.rules.specs.Checks.{first}
-use Rattle.rules.specs.Refusals.{number, given, refused, placedAnswer, turnedAnswer, listedAnswer, starredAnswer}
+use Rattle.rules.specs.Refusals.{number, given, refused}
+use Rattle.rules.specs.Answers.{placedAnswer, turnedAnswer, listedAnswer, starredAnswer}
 use Rattle.rules.specs.Turning.{turn, turned}
 use Rattle.rules.specs.Place.{placeIn, place}
-use Rattle.rules.specs.StarList.{countIn, fileLength, listCount, listStar, countFrom, numbersWritten}
+use Rattle.rules.specs.StarList.{countIn, fileLength}
+use Rattle.rules.specs.ListReading.{listCount, listStar}
+use Rattle.rules.specs.ListWriting.{countFrom, numbersWritten}
 use Rattle.laws.specs.Checks.{FirstGiven, NoneGiven}
 use Rattle.answers.specs.declared.places.TurbelicusPlaced.{TurbelicusPlaced}
 use Rattle.answers.specs.declared.turns.TurbelicusTurned.{TurbelicusTurned}

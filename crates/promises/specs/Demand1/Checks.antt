@@ -21,8 +21,10 @@ use Rattle.rules.specs.Length.{lengthRefused}
 use Rattle.rules.specs.Turning.{directionRefused, turnRefused}
 use Rattle.rules.specs.Night.{siteRefused}
 use Rattle.rules.specs.Place.{starRefused}
-use Rattle.rules.specs.StarList.{markRefused, countRefused, countIn, anyRefused, stars, starsOf, roomRefused}
-use Rattle.rules.specs.StarList.{numberStars, rowRefused}
+use Rattle.rules.specs.StarList.{countIn, anyRefused, stars}
+use Rattle.rules.specs.ListReading.{markRefused, countRefused}
+use Rattle.rules.specs.ListWriting.{starsOf, roomRefused}
+use Rattle.rules.specs.ListWriting.{numberStars, rowRefused}
 use Rattle.rules.specs.NightList.{listRefused}
 
 -- "Checks run in rising number where several apply": a date 1, 2

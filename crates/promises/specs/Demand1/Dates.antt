@@ -10,7 +10,8 @@ use Rattle.rules.specs.declared.Numbered.{Numbered}
 use Rattle.rules.specs.declared.Dated.{Dated}
 use Rattle.rules.specs.declared.Instants.{Instants}
 use Rattle.rules.specs.Checks.{first}
-use Rattle.rules.specs.Refusals.{given, refused, numberedAnswer, datedAnswer, instantsAnswer}
+use Rattle.rules.specs.Refusals.{given, refused}
+use Rattle.rules.specs.Answers.{numberedAnswer, datedAnswer, instantsAnswer}
 use Rattle.rules.specs.Calendar.{dayNumber, dateOfNumber, dayOf, dateOf}
 use Rattle.rules.specs.Dates.{utOf, ttOf, instants}
 use Rattle.laws.specs.Checks.{FirstGiven}

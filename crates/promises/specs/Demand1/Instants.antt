@@ -12,8 +12,11 @@ use Rattle.rules.specs.declared.Precessed.{Precessed}
 use Rattle.rules.specs.declared.Argued.{Argued}
 use Rattle.rules.specs.declared.Nutated.{Nutated}
 use Rattle.rules.specs.Checks.{first}
-use Rattle.rules.specs.Refusals.{given, refused, angleAnswer, precessedAnswer, arguedAnswer, nutatedAnswer}
-use Rattle.rules.specs.Polynomials.{angleAt, precession, precessionAt, obliquity, obliquityAt, arguments, argumentsAt}
+use Rattle.rules.specs.Refusals.{given, refused}
+use Rattle.rules.specs.Answers.{angleAnswer, precessedAnswer, arguedAnswer, nutatedAnswer}
+use Rattle.rules.specs.Polynomials.{angleAt}
+use Rattle.rules.specs.Precession.{precession, precessionAt, obliquity, obliquityAt}
+use Rattle.rules.specs.Arguments.{arguments, argumentsAt}
 use Rattle.rules.specs.Nutation.{nutation, nutationAt}
 use Rattle.rules.specs.Sun.{sunLongitude, sunLongitudeAt}
 use Rattle.rules.specs.Sidereal.{sidereal, siderealAt}

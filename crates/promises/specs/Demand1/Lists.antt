@@ -14,9 +14,12 @@ use Rattle.rules.specs.declared.Refusal.{Refusal}
 use Rattle.rules.specs.declared.Listed.{Listed}
 use Rattle.rules.specs.declared.Starred.{Starred}
 use Rattle.rules.specs.Checks.{first}
-use Rattle.rules.specs.Refusals.{given, refused, listedAnswer, starredAnswer}
-use Rattle.rules.specs.StarList.{countIn, stars, fileLength, listCount, readInto, listRead, freshEntry, leaving}
-use Rattle.rules.specs.StarList.{entriesAfterRead, starIn, starAt, listStar}
+use Rattle.rules.specs.Refusals.{given, refused}
+use Rattle.rules.specs.Answers.{listedAnswer, starredAnswer}
+use Rattle.rules.specs.StarList.{countIn, stars, fileLength}
+use Rattle.rules.specs.ListReading.{listCount, readInto, listRead, freshEntry, leaving}
+use Rattle.rules.specs.StarList.{starIn}
+use Rattle.rules.specs.ListReading.{entriesAfterRead, starAt, listStar}
 use Rattle.laws.specs.Checks.{FirstGiven}
 use Rattle.promises.specs.Demand1.Checks.{fileChecks, readChecks, starChecks}
 use Rattle.promises.specs.Demand1.InOrder.{first-map, first-kept, refused-exactly}

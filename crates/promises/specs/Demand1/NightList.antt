@@ -14,9 +14,10 @@ use Rattle.rules.specs.declared.Refusal.{Refusal}
 use Rattle.rules.specs.declared.Prepared.{Prepared}
 use Rattle.rules.specs.declared.Listed.{Listed}
 use Rattle.rules.specs.Checks.{first}
-use Rattle.rules.specs.Refusals.{given, refused, listedAnswer}
+use Rattle.rules.specs.Refusals.{given, refused}
+use Rattle.rules.specs.Answers.{listedAnswer}
 use Rattle.rules.specs.Place.{starRefused, placeIn}
-use Rattle.rules.specs.StarList.{noughts}
+use Rattle.rules.specs.ListReading.{noughts}
 use Rattle.rules.specs.NightList.{worked, marked, listedIn, nightList, workedIn, entriesAfterNight}
 use Rattle.laws.specs.Checks.{FirstGiven}
 use Rattle.laws.specs.Ranges.{true-not-false}

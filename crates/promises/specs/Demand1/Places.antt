@@ -15,7 +15,8 @@ use Rattle.rules.specs.declared.Instants.{Instants}
 use Rattle.rules.specs.declared.Prepared.{Prepared}
 use Rattle.rules.specs.declared.Placed.{Placed}
 use Rattle.rules.specs.Checks.{first}
-use Rattle.rules.specs.Refusals.{number, given, refused, placedAnswer, preparedAnswer, parts}
+use Rattle.rules.specs.Refusals.{number, given, refused}
+use Rattle.rules.specs.Answers.{placedAnswer, preparedAnswer, parts}
 use Rattle.rules.specs.Dates.{utOf, ttOf}
 use Rattle.rules.specs.Night.{night, nightAt, nightOf}
 use Rattle.rules.specs.Place.{placeIn, placeAt, place}

@@ -8,7 +8,8 @@ use Rattle.rules.specs.declared.Direction.{Direction}
 use Rattle.rules.specs.declared.Refusal.{Refusal}
 use Rattle.rules.specs.declared.Turned.{Turned}
 use Rattle.rules.specs.Checks.{first}
-use Rattle.rules.specs.Refusals.{given, refused, turnedAnswer}
+use Rattle.rules.specs.Refusals.{given, refused}
+use Rattle.rules.specs.Answers.{turnedAnswer}
 use Rattle.rules.specs.Length.{toLength, broughtToLength}
 use Rattle.rules.specs.Turning.{directionRefused, turnRefused, turn, turned}
 use Rattle.laws.specs.Checks.{FirstGiven}

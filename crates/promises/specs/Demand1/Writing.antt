@@ -10,9 +10,12 @@ use Rattle.rules.specs.declared.Entry.{Entry}
 use Rattle.rules.specs.declared.Refusal.{Refusal}
 use Rattle.rules.specs.declared.Listed.{Listed}
 use Rattle.rules.specs.Checks.{first}
-use Rattle.rules.specs.Refusals.{given, refused, listedAnswer}
-use Rattle.rules.specs.StarList.{fileLength, leaving, starsOf, fileOf, writtenOf, listWritten, roomAfterWrite}
-use Rattle.rules.specs.StarList.{countFrom, numberStars, numbersWritten, roomAfterNumbers}
+use Rattle.rules.specs.Refusals.{given, refused}
+use Rattle.rules.specs.Answers.{listedAnswer}
+use Rattle.rules.specs.StarList.{fileLength}
+use Rattle.rules.specs.ListReading.{leaving}
+use Rattle.rules.specs.ListWriting.{starsOf, fileOf, writtenOf, listWritten, roomAfterWrite}
+use Rattle.rules.specs.ListWriting.{countFrom, numberStars, numbersWritten, roomAfterNumbers}
 use Rattle.laws.specs.Checks.{FirstGiven}
 use Rattle.promises.specs.Demand1.Checks.{writeChecks, rowChecks}
 use Rattle.promises.specs.Demand1.InOrder.{first-map, first-kept, refused-exactly}

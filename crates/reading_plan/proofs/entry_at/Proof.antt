@@ -1,7 +1,7 @@
 -- `reading_plan::entry_at` meets its contract.
 use mathlib.Core.Path.{ap}
 use borrow.Author.Needs.{needs}
-use Rattle.rules.specs.StarList.{freshEntry}
+use Rattle.rules.specs.ListReading.{freshEntry}
 use Rattle.reading_plan.proofs.entry_at.Statement.{statement}
 use Rattle.reading_plan.proofs.entry_at.Tie as tie
 

@@ -3,7 +3,7 @@ use mathlib.Core.Path.{sym, _∙_, ap}
 use borrow.Author.Needs.{needs}
 use borrow.Author.Tests.{lt-ltb, le-ltb}
 use Rattle.rules.specs.declared.Listed.{Listed}
-use Rattle.rules.specs.StarList.{readInto, leaving}
+use Rattle.rules.specs.ListReading.{readInto, leaving}
 use Rattle.laws.specs.StarList.{file-accepted}
 use Rattle.star_file.specs.Plans.{planOf, readPlan}
 use Rattle.reading_plan.proofs.read_plan.Statement.{statement}

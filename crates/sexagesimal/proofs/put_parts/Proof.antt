@@ -3,7 +3,7 @@ use native.Mathlib.Omega.{arith}
 use lib.IntN.{natAbs}
 use mir.Facts.{toZ-ofZ}
 use borrow.Author.Needs.{needs}
-use Rattle.rules.specs.Lines.{point}
+use Rattle.rules.specs.Numerals.{point}
 use Rattle.sexagesimal.specs.Sexagesimal.{marked, clock, sexagesimal}
 use Rattle.sexagesimal.specs.Rows.{Put, none-put, more, put-length}
 use Rattle.sexagesimal.specs.Widths.{clock-length}

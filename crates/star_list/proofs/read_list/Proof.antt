@@ -57,7 +57,8 @@ use denote.Exit.{yes}
 use denote.Enum.Laws as EL
 use Rattle.rules.specs.declared.Entry.{Entry}
 use Rattle.rules.specs.declared.Listed.{Listed}
-use Rattle.rules.specs.StarList.{starIn, freshEntry}
+use Rattle.rules.specs.StarList.{starIn}
+use Rattle.rules.specs.ListReading.{freshEntry}
 use Rattle.star_file.specs.declared.Plan.{Plan}
 use Rattle.star_file.specs.Plans.{readPlan}
 use Rattle.star_list.proofs.Lists.{snoc-length, set-next, row-within}

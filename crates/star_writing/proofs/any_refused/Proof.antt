@@ -8,7 +8,8 @@ use borrow.Author.Needs.{needs}
 use lib.IntN.{pos}
 use lib.ListN.{getD, drop}
 use Rattle.rules.specs.Place.{starRefused}
-use Rattle.rules.specs.StarList.{starFrom, anyRefused}
+use Rattle.rules.specs.StarList.{anyRefused}
+use Rattle.rules.specs.ListWriting.{starFrom}
 use Rattle.laws.specs.Records.{each, starsFrom-each, each-more, any-of, any-snoc}
 use Rattle.words.specs.Fits.{held64}
 use Rattle.stars.specs.Numbers.{starOf}

@@ -8,8 +8,10 @@ use lib.ListN.{length, drop}
 use borrow.Author.Needs.{needs}
 use Rattle.rules.specs.declared.Listed.{Listed}
 use Rattle.rules.specs.declared.Refusal.{Refusal}
-use Rattle.rules.specs.StarList.{fileLength, anyRefused, fileOf, leaving, roomRefused, countFrom, numberStars}
-use Rattle.rules.specs.StarList.{rowRefused, numbersWritten, roomAfterNumbers}
+use Rattle.rules.specs.StarList.{fileLength, anyRefused}
+use Rattle.rules.specs.ListReading.{leaving}
+use Rattle.rules.specs.ListWriting.{fileOf, roomRefused, countFrom, numberStars}
+use Rattle.rules.specs.ListWriting.{rowRefused, numbersWritten, roomAfterNumbers}
 use Rattle.laws.specs.FileLength.{headOf}
 use Rattle.laws.specs.StarWidths.{all-fit}
 use Rattle.laws.specs.StarList.{numbers-kept}

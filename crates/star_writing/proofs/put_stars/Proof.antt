@@ -5,7 +5,7 @@ use Prim.Native.Nat.{ℕ, suc, _+_, _-_, _*_, _≤_}
 use native.Mathlib.Omega.{arith}
 use lib.IntN.{ℤ, pos}
 use lib.ListN.{length, getD, drop}
-use Rattle.rules.specs.StarList.{starFrom}
+use Rattle.rules.specs.ListWriting.{starFrom}
 use Rattle.laws.specs.Records.{each, starsFrom-each, each-length, each-more}
 use Rattle.star_bytes.specs.Puts.{put, put-length, put-none, put-put}
 use Rattle.words.specs.Fits.{held64}

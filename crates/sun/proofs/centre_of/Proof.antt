@@ -7,7 +7,8 @@ use mir.Syntax.{w64}
 use mir.Val.{toZ, ofZ}
 use Rattle.rules.specs.Units.{unit}
 use Rattle.rules.specs.Circle.{pair}
-use Rattle.rules.specs.Polynomials.{sunRow, polynomial, arguments}
+use Rattle.rules.specs.Polynomials.{polynomial}
+use Rattle.rules.specs.Arguments.{sunRow, arguments}
 use Rattle.rules.specs.Sun.{firstRow, secondRow, thirdRow, centreProduct, centreSum, centre}
 use Rattle.laws.specs.Polynomials.{sizes, polynomial-le}
 use Rattle.laws.specs.Angles.{pair-sized}

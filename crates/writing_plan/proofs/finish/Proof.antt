@@ -5,7 +5,7 @@ use Prim.Native.Nat.{ℕ}
 use borrow.Author.Needs.{needs}
 use Rattle.rules.specs.declared.Listed.{Listed}
 use Rattle.rules.specs.declared.Refusal.{Refusal}
-use Rattle.rules.specs.StarList.{leaving}
+use Rattle.rules.specs.ListReading.{leaving}
 use Rattle.laws.specs.FileLength.{headOf}
 use Rattle.star_bytes.specs.Puts.{put}
 use Rattle.writing_plan.proofs.finish.Statement.{statement}

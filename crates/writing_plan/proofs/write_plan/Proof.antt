@@ -1,7 +1,9 @@
 -- `writing_plan::write_plan` meets its contract.
 use borrow.Author.Needs.{needs}
 use borrow.Author.Tests.{eq-eqb, ne-eqb, lt-ltb, le-ltb}
-use Rattle.rules.specs.StarList.{fileLength, leaving, roomRefused, writtenOf}
+use Rattle.rules.specs.StarList.{fileLength}
+use Rattle.rules.specs.ListReading.{leaving}
+use Rattle.rules.specs.ListWriting.{roomRefused, writtenOf}
 use Rattle.star_file.specs.Plans.{planOf}
 use Rattle.writing_plan.specs.Plans.{writePlan}
 use Rattle.writing_plan.proofs.write_plan.Statement.{statement}

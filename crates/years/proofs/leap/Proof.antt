@@ -11,7 +11,7 @@ use mir.Val.{toZ, ofZ, SFits}
 use mir.Facts.{toZ-ofZ}
 use borrow.Author.Tests.{eq-eqb, ne-eqb}
 use Rattle.words.specs.Fits.{quot-fits}
-use Rattle.rules.specs.Calendar.{leap}
+use Rattle.rules.specs.Years.{leap}
 use Rattle.years.proofs.leap.Statement.{statement}
 use Rattle.years.proofs.leap.Tie as tie
 

@@ -7,7 +7,7 @@ use lib.IntN.{pos}
 use lib.ListN.{take, getD}
 use borrow.Author.Needs.{needs}
 use Rattle.words.specs.Holds.{Holds, bits, nat, got, add-ok}
-use Rattle.rules.specs.Calendar.{sum as total}
+use Rattle.rules.specs.Years.{sum as total}
 use Rattle.laws.specs.Rows.{sum-take-suc}
 use Rattle.laws.specs.Calendar.{row, row-days-le, months-before-le}
 use Rattle.years.proofs.months_before.Statement.{statement}

@@ -1,7 +1,8 @@
 -- `answers::lists::counted_out` meets its contract.
 use mathlib.Core.Path.{_∙_}
 use borrow.Author.Needs.{needs}
-use Rattle.rules.specs.Refusals.{given, refused, listedAnswer}
+use Rattle.rules.specs.Refusals.{given, refused}
+use Rattle.rules.specs.Answers.{listedAnswer}
 use Rattle.words.specs.Fits.{held64}
 use Rattle.answers.specs.Answers.{countedOut}
 use Rattle.answers.proofs.lists.counted_out.Statement.{statement}

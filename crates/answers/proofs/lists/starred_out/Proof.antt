@@ -3,7 +3,8 @@ use mathlib.Core.Path.{_≡_, _∙_}
 use borrow.Author.Needs.{needs}
 use mir.Syntax.{w32, w64}
 use mir.Val.{toZ, ofZ}
-use Rattle.rules.specs.Refusals.{given, refused, starredAnswer}
+use Rattle.rules.specs.Refusals.{given, refused}
+use Rattle.rules.specs.Answers.{starredAnswer}
 use Rattle.words.specs.Fits.{held64}
 use Rattle.answers.specs.Answers.{starredOut}
 use Rattle.answers.proofs.lists.starred_out.Statement.{statement}

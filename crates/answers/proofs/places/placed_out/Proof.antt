@@ -3,7 +3,8 @@ use mathlib.Core.Path.{_≡_, _∙_}
 use borrow.Author.Needs.{needs}
 use mir.Syntax.{w64}
 use mir.Val.{toZ, ofZ}
-use Rattle.rules.specs.Refusals.{given, refused, placedAnswer}
+use Rattle.rules.specs.Refusals.{given, refused}
+use Rattle.rules.specs.Answers.{placedAnswer}
 use Rattle.words.specs.Fits.{held64}
 use Rattle.answers.specs.Answers.{placedOut}
 use Rattle.answers.proofs.places.placed_out.Statement.{statement}

@@ -3,7 +3,8 @@ use mathlib.Core.Path.{_≡_, _∙_}
 use borrow.Author.Needs.{needs}
 use mir.Syntax.{w64}
 use mir.Val.{toZ, ofZ}
-use Rattle.rules.specs.Refusals.{given, refused, turnedAnswer}
+use Rattle.rules.specs.Refusals.{given, refused}
+use Rattle.rules.specs.Answers.{turnedAnswer}
 use Rattle.words.specs.Fits.{held64}
 use Rattle.answers.specs.Answers.{turnedOut}
 use Rattle.answers.proofs.turns.turned_out.Statement.{statement}

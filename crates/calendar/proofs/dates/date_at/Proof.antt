@@ -7,7 +7,7 @@ use lib.ListN.{take}
 use lib.Signed.{ltZ-yes}
 use Rattle.words.specs.Holds.{Holds, bits, _+ʷ_, _-ʷ_, _*ʷ_, _/ʷ_, lit, got, add, add-ok, sub-ok, sub-nat, mul, mul-ok}
 use Rattle.words.specs.Holds.{div-lit, div-ok}
-use Rattle.rules.specs.Calendar.{sum, years}
+use Rattle.rules.specs.Years.{sum, years}
 use Rattle.laws.specs.Ranges.{InRange}
 use Rattle.laws.specs.Calendar.{years-before-le, less-first}
 use Rattle.laws.specs.Found.{yearAt, year-at-lt, year-at-ge, year-at-rest-lt, date-of-count-is}

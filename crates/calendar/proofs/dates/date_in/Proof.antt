@@ -15,7 +15,7 @@ use borrow.Author.Tests.{ltb-true, ltb-false}
 use Rattle.integers.specs.Difference.{pos-sub}
 use Rattle.words.specs.Holds.{Holds, bits, _-ʷ_, nat, got, sub-ok}
 use Rattle.words.specs.Fits.{fits32}
-use Rattle.rules.specs.Calendar.{leap, sum}
+use Rattle.rules.specs.Years.{leap, sum}
 use Rattle.laws.specs.Rows.{sum-take-suc}
 use Rattle.laws.specs.Calendar.{row, leap-lt, months-row, row-sum, row-days-le}
 use Rattle.laws.specs.Found.{date-in-row, row-whole}

@@ -7,7 +7,8 @@ use lib.ListN.{take}
 use mir.Facts.{toZ-ofZ}
 use borrow.Author.Needs.{needs}
 use Rattle.words.specs.Holds.{Holds, bits, _+ʷ_, _-ʷ_, lit, got, add, add-ok, sub, sub-ok, sub-nat}
-use Rattle.rules.specs.Calendar.{leap, months, sum, years, dayCount}
+use Rattle.rules.specs.Years.{leap, months, sum, years}
+use Rattle.rules.specs.Calendar.{dayCount}
 use Rattle.laws.specs.Calendar.{leap-lt, months-row, months-before-le, years-before-le, months-le}
 use Rattle.laws.specs.DayNumbers.{day-number-is}
 use Rattle.calendar.proofs.dates.day_number.Statement.{statement}

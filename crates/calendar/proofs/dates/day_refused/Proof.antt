@@ -10,7 +10,8 @@ use borrow.Author.Needs.{needs}
 use borrow.Author.Tests.{not-true, not-false}
 use Rattle.words.specs.Holds.{Holds, bits, _-ʷ_, lit, got, sub-ok, sub-nat}
 use Rattle.rules.specs.Units.{between}
-use Rattle.rules.specs.Calendar.{leap, months, monthDays, dayRefused}
+use Rattle.rules.specs.Years.{leap, months}
+use Rattle.rules.specs.Calendar.{monthDays, dayRefused}
 use Rattle.laws.specs.Ranges.{InRange, in-range}
 use Rattle.laws.specs.Calendar.{leap-lt, months-row, months-le}
 use Rattle.calendar.proofs.dates.day_refused.Statement.{statement}

@@ -4,7 +4,8 @@ use borrow.Author.Needs.{needs}
 use mir.Syntax.{w32}
 use mir.Val.{SFits}
 use Rattle.rules.specs.declared.Date.{Date}
-use Rattle.rules.specs.Refusals.{given, refused, datedAnswer}
+use Rattle.rules.specs.Refusals.{given, refused}
+use Rattle.rules.specs.Answers.{datedAnswer}
 use Rattle.words.specs.Fits.{held64}
 use Rattle.words.specs.Holds.{widened, widened-ok}
 use Rattle.inner_dates.specs.Dates.{innerDate}

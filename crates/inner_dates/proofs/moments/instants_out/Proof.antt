@@ -3,7 +3,8 @@ use mathlib.Core.Path.{_≡_, _∙_}
 use borrow.Author.Needs.{needs}
 use mir.Syntax.{w64}
 use mir.Val.{toZ, ofZ}
-use Rattle.rules.specs.Refusals.{given, refused, instantsAnswer}
+use Rattle.rules.specs.Refusals.{given, refused}
+use Rattle.rules.specs.Answers.{instantsAnswer}
 use Rattle.words.specs.Fits.{held64}
 use Rattle.inner_dates.specs.Dates.{innerInstants}
 use Rattle.inner_dates.proofs.moments.instants_out.Statement.{statement}

@@ -3,7 +3,8 @@ use mathlib.Core.Path.{_≡_, _∙_}
 use borrow.Author.Needs.{needs}
 use mir.Syntax.{w64}
 use mir.Val.{toZ, ofZ}
-use Rattle.rules.specs.Refusals.{given, refused, arguedAnswer}
+use Rattle.rules.specs.Refusals.{given, refused}
+use Rattle.rules.specs.Answers.{arguedAnswer}
 use Rattle.words.specs.Fits.{held64}
 use Rattle.inner_earth.specs.Angles.{innerArgued}
 use Rattle.inner_earth.proofs.angle_sets.argued_out.Statement.{statement}

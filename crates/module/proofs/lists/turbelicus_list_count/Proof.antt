@@ -1,7 +1,7 @@
 -- `module::lists::turbelicus_list_count` meets its contract.
 use mathlib.Core.Path.{ap, _∙_}
 use borrow.Author.Needs.{needs}
-use Rattle.rules.specs.Refusals.{listedAnswer}
+use Rattle.rules.specs.Answers.{listedAnswer}
 use Rattle.answers.specs.Answers.{countedOut}
 use Rattle.module.proofs.lists.turbelicus_list_count.Statement.{statement}
 use Rattle.module.proofs.lists.turbelicus_list_count.Tie as tie

@@ -1,7 +1,7 @@
 -- `module::lists::turbelicus_list_star` meets its contract.
 use mathlib.Core.Path.{ap, _∙_}
 use borrow.Author.Needs.{needs}
-use Rattle.rules.specs.Refusals.{starredAnswer}
+use Rattle.rules.specs.Answers.{starredAnswer}
 use Rattle.answers.specs.Answers.{starredOut}
 use Rattle.module.proofs.lists.turbelicus_list_star.Statement.{statement}
 use Rattle.module.proofs.lists.turbelicus_list_star.Tie as tie

@@ -1,7 +1,7 @@
 -- `module::lists::turbelicus_list_write` meets its contract.
 use mathlib.Core.Path.{ap, _∙_}
 use borrow.Author.Needs.{needs}
-use Rattle.rules.specs.Refusals.{listedAnswer}
+use Rattle.rules.specs.Answers.{listedAnswer}
 use Rattle.answers.specs.Answers.{writtenOut}
 use Rattle.module.proofs.lists.turbelicus_list_write.Statement.{statement}
 use Rattle.module.proofs.lists.turbelicus_list_write.Tie as tie

@@ -2,7 +2,7 @@
 use mathlib.Core.Path.{ap, _∙_}
 use borrow.Author.Needs.{needs}
 use mir.Facts.{toZ-ofZ}
-use Rattle.rules.specs.Refusals.{placedAnswer}
+use Rattle.rules.specs.Answers.{placedAnswer}
 use Rattle.answers.specs.Answers.{placedOut}
 use Rattle.module.proofs.places.turbelicus_place.Statement.{statement}
 use Rattle.module.proofs.places.turbelicus_place.Tie as tie

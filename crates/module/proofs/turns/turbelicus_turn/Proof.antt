@@ -2,7 +2,7 @@
 use mathlib.Core.Path.{ap, _∙_}
 use borrow.Author.Needs.{needs}
 use mir.Facts.{toZ-ofZ}
-use Rattle.rules.specs.Refusals.{turnedAnswer}
+use Rattle.rules.specs.Answers.{turnedAnswer}
 use Rattle.answers.specs.Answers.{turnedOut}
 use Rattle.module.proofs.turns.turbelicus_turn.Statement.{statement}
 use Rattle.module.proofs.turns.turbelicus_turn.Tie as tie

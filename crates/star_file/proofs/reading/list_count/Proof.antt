@@ -7,7 +7,8 @@ use native.Mathlib.Omega.{arith}
 use lib.ListN.{drop}
 use borrow.Author.Needs.{needs}
 use Rattle.rules.specs.declared.Listed.{Listed}
-use Rattle.rules.specs.StarList.{countIn, fileLength, starsIn, stars, anyRefused, markRefused, countRefused}
+use Rattle.rules.specs.StarList.{countIn, fileLength, starsIn, stars, anyRefused}
+use Rattle.rules.specs.ListReading.{markRefused, countRefused}
 use Rattle.laws.specs.FileTests.{headed, count-many, count-fails, count-passes}
 use Rattle.laws.specs.StarList.{file-refused-9, file-refused-10}
 use Rattle.laws.specs.StarList.{file-refused-5, file-counted}

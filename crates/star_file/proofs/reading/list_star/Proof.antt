@@ -7,7 +7,8 @@ use borrow.Author.Needs.{needs}
 use borrow.Author.Tests.{lt-ltb, le-ltb}
 use Rattle.rules.specs.declared.Listed.{Listed}
 use Rattle.rules.specs.declared.Starred.{Starred}
-use Rattle.rules.specs.StarList.{fileLength, starAt, listStar, listCount}
+use Rattle.rules.specs.StarList.{fileLength}
+use Rattle.rules.specs.ListReading.{starAt, listStar, listCount}
 use Rattle.laws.specs.StarList.{accepted-size, accepted-few}
 use Rattle.star_file.proofs.reading.list_star.Statement.{statement}
 use Rattle.star_file.proofs.reading.list_star.Tie as tie

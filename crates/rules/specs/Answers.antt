@@ -1,0 +1,72 @@
+-- Document 01, "Refusal numbers": the number and values of each answer. Definitions only.
+use mathlib.Core.List.{List, [], _∷_, _++_}
+use lib.IntN.{ℤ, pos}
+use Rattle.rules.specs.Data.{Pair, Numbered, Dated, Instants, Angle, Precessed, Argued, Nutated}
+use Rattle.rules.specs.Data.{Turned, Prepared, Placed, Listed, Starred}
+use Rattle.rules.specs.Refusals.{Answer, given, refused}
+
+-- the day number
+unfoldable pub numberedAnswer : Numbered → Answer
+numberedAnswer (Numbered.Day n) = given (n ∷ [])
+numberedAnswer (Numbered.Refused r) = refused r 1
+
+-- year, month, day
+unfoldable pub datedAnswer : Dated → Answer
+datedAnswer (Dated.On d) = given (d .year ∷ d .month ∷ d .day ∷ [])
+datedAnswer (Dated.Refused r) = refused r 3
+
+-- UT, TT
+unfoldable pub instantsAnswer : Instants → Answer
+instantsAnswer (Instants.At ut tt) = given (ut .0 ∷ tt .0 ∷ [])
+instantsAnswer (Instants.Refused r) = refused r 2
+
+-- the angle
+unfoldable pub angleAnswer : Angle → Answer
+angleAnswer (Angle.Of a) = given (a ∷ [])
+angleAnswer (Angle.Refused r) = refused r 1
+
+-- ζ, z, θ
+unfoldable pub precessedAnswer : Precessed → Answer
+precessedAnswer (Precessed.By p) = given (p .zeta ∷ p .z ∷ p .theta ∷ [])
+precessedAnswer (Precessed.Refused r) = refused r 3
+
+-- l, l′, F, D, Ω
+unfoldable pub arguedAnswer : Argued → Answer
+arguedAnswer (Argued.By a) = given (a .moon ∷ a .sun ∷ a .latitude ∷ a .elongation ∷ a .node ∷ [])
+arguedAnswer (Argued.Refused r) = refused r 5
+
+-- Δψ, Δε
+unfoldable pub nutatedAnswer : Nutated → Answer
+nutatedAnswer (Nutated.By n) = given (n .longitude ∷ n .obliquity ∷ [])
+nutatedAnswer (Nutated.Refused r) = refused r 2
+
+-- x, y, z
+unfoldable pub turnedAnswer : Turned → Answer
+turnedAnswer (Turned.To v) = given (v .x ∷ v .y ∷ v .z ∷ [])
+turnedAnswer (Turned.Refused r) = refused r 3
+
+-- right ascension, declination, azimuth, altitude
+unfoldable pub placedAnswer : Placed → Answer
+placedAnswer (Placed.At p) = given (p .ra ∷ p .declination ∷ p .azimuth ∷ p .altitude ∷ [])
+placedAnswer (Placed.Refused r) = refused r 4
+
+-- the count
+unfoldable pub listedAnswer : Listed → Answer
+listedAnswer (Listed.Count n) = given (pos n ∷ [])
+listedAnswer (Listed.Refused r) = refused r 1
+
+-- right ascension, declination, their motions
+unfoldable pub starredAnswer : Starred → Answer
+starredAnswer (Starred.Of s) = given (s .ra ∷ s .declination ∷ s .«ra_motion» ∷ s .«declination_motion» ∷ [])
+starredAnswer (Starred.Refused r) = refused r 4
+
+-- a pair's two parts
+unfoldable pub parts : Pair → List ℤ
+parts p = p .cosine ∷ p .sine ∷ []
+
+-- TT, then what each of the steps 3 to 6 takes
+unfoldable pub preparedAnswer : Prepared → Answer
+preparedAnswer (Prepared.For n) = given (n .tt .0 ∷ parts (n .zeta) ++ parts (n .theta) ++ parts (n .z)
+    ++ (n .aberration .x ∷ n .aberration .y ∷ n .aberration .z ∷ [])
+    ++ parts (n .mean) ++ parts (n .longitude) ++ parts (n .obliquity) ++ parts (n .sidereal) ++ parts (n .latitude))
+preparedAnswer (Prepared.Refused r) = refused r 20
