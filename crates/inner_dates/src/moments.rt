@@ -1,20 +1,12 @@
 // UT and TT of a moment, of the crate `instants`.
 
+use inner_answers::moments::InnerInstants;
+use inner_answers::moments::instants_out;
 use rules::Date;
-use rules::Instants;
 use rules::Moment;
 use rules::Time;
 ghost use mathlib.Core.Path.{_≡_};
-ghost use Rattle.rules.specs.Answers.{instantsAnswer};
-ghost use Rattle.inner_dates.specs.Dates.{innerInstants, instantsOf};
-
-// The refusal's number and noughts, or 0 and UT, TT.
-#[repr(C)]
-pub struct InnerInstants {
-    pub refused: i64,
-    pub ut: i64,
-    pub tt: i64,
-}
+ghost use Rattle.inner_dates.specs.Given.{instantsOf};
 
 // UT and TT of a UTC date with its time of day and UT1-UTC.
 #[no_mangle]
@@ -44,21 +36,4 @@ pub extern "C" fn inner_instants(
         },
         difference: difference,
     }))
-}
-
-fn instants_out(a: Instants) -> InnerInstants
-    ensures { λ r. ⌜ r ≡ innerInstants (instantsAnswer a) ⌝ }
-{
-    match a {
-        Instants::At(ut, tt) => InnerInstants {
-            refused: 0,
-            ut: ut.0,
-            tt: tt.0,
-        },
-        Instants::Refused(r) => InnerInstants {
-            refused: refusals::number(r),
-            ut: 0,
-            tt: 0,
-        },
-    }
 }

@@ -1,2 +1,2 @@
--- What the exports answer.
-pub mod Angles
+-- What the exports are given.
+pub mod Given

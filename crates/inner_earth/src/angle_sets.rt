@@ -1,8 +1,11 @@
 // Several angles of an instant, of the crates `precession`, `arguments` and `nutation`.
 
-use rules::Argued;
-use rules::Nutated;
-use rules::Precessed;
+use inner_answers::angle_sets::InnerArgued;
+use inner_answers::angle_sets::InnerNutated;
+use inner_answers::angle_sets::InnerPrecessed;
+use inner_answers::angle_sets::argued_out;
+use inner_answers::angle_sets::nutated_out;
+use inner_answers::angle_sets::precessed_out;
 use rules::Tt;
 ghost use mathlib.Core.Path.{_≡_};
 ghost use lib.IntN.{ℤ};
@@ -10,35 +13,8 @@ ghost use Rattle.rules.specs.Answers.{precessedAnswer, arguedAnswer, nutatedAns
 ghost use Rattle.rules.specs.Precession.{precessionAt};
 ghost use Rattle.rules.specs.Arguments.{argumentsAt};
 ghost use Rattle.rules.specs.Nutation.{nutationAt};
-ghost use Rattle.inner_earth.specs.Angles.{inTt, innerPrecessed, innerArgued, innerNutated};
-
-// The refusal's number and noughts, or 0 and the angles of precession.
-#[repr(C)]
-pub struct InnerPrecessed {
-    pub refused: i64,
-    pub zeta: i64,
-    pub z: i64,
-    pub theta: i64,
-}
-
-// The refusal's number and noughts, or 0 and l, l', F, D, Ω.
-#[repr(C)]
-pub struct InnerArgued {
-    pub refused: i64,
-    pub l: i64,
-    pub l1: i64,
-    pub f: i64,
-    pub d: i64,
-    pub om: i64,
-}
-
-// The refusal's number and noughts, or 0 and Δψ, Δε.
-#[repr(C)]
-pub struct InnerNutated {
-    pub refused: i64,
-    pub longitude: i64,
-    pub obliquity: i64,
-}
+ghost use Rattle.inner_answers.specs.Angles.{innerPrecessed, innerArgued, innerNutated};
+ghost use Rattle.inner_earth.specs.Given.{inTt};
 
 // Precession at a TT instant.
 #[no_mangle]
@@ -62,63 +38,4 @@ pub extern "C" fn inner_nutation(tt: i64) -> InnerNutated
     ensures { λ r. ⌜ r ≡ innerNutated (nutatedAnswer (nutationAt (inTt tt))) ⌝ }
 {
     nutated_out(nutation::nutation(Tt(tt)))
-}
-
-fn precessed_out(a: Precessed) -> InnerPrecessed
-    ensures { λ r. ⌜ r ≡ innerPrecessed (precessedAnswer a) ⌝ }
-{
-    match a {
-        Precessed::By(p) => InnerPrecessed {
-            refused: 0,
-            zeta: p.zeta,
-            z: p.z,
-            theta: p.theta,
-        },
-        Precessed::Refused(r) => InnerPrecessed {
-            refused: refusals::number(r),
-            zeta: 0,
-            z: 0,
-            theta: 0,
-        },
-    }
-}
-
-fn argued_out(a: Argued) -> InnerArgued
-    ensures { λ r. ⌜ r ≡ innerArgued (arguedAnswer a) ⌝ }
-{
-    match a {
-        Argued::By(p) => InnerArgued {
-            refused: 0,
-            l: p.moon,
-            l1: p.sun,
-            f: p.latitude,
-            d: p.elongation,
-            om: p.node,
-        },
-        Argued::Refused(r) => InnerArgued {
-            refused: refusals::number(r),
-            l: 0,
-            l1: 0,
-            f: 0,
-            d: 0,
-            om: 0,
-        },
-    }
-}
-
-fn nutated_out(a: Nutated) -> InnerNutated
-    ensures { λ r. ⌜ r ≡ innerNutated (nutatedAnswer a) ⌝ }
-{
-    match a {
-        Nutated::By(n) => InnerNutated {
-            refused: 0,
-            longitude: n.longitude,
-            obliquity: n.obliquity,
-        },
-        Nutated::Refused(r) => InnerNutated {
-            refused: refusals::number(r),
-            longitude: 0,
-            obliquity: 0,
-        },
-    }
 }

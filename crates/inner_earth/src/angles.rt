@@ -1,6 +1,7 @@
 // An angle of an instant, of the crates `precession`, `sun` and `sidereal`.
 
-use rules::Angle;
+use inner_answers::angles::InnerAngle;
+use inner_answers::angles::angle_out;
 use rules::Tt;
 use rules::Ut;
 ghost use mathlib.Core.Path.{_≡_};
@@ -9,14 +10,8 @@ ghost use Rattle.rules.specs.Answers.{angleAnswer};
 ghost use Rattle.rules.specs.Precession.{obliquityAt};
 ghost use Rattle.rules.specs.Sun.{sunLongitudeAt};
 ghost use Rattle.rules.specs.Sidereal.{siderealAt};
-ghost use Rattle.inner_earth.specs.Angles.{inTt, inUt, innerAngle};
-
-// The refusal's number and noughts, or 0 and the angle.
-#[repr(C)]
-pub struct InnerAngle {
-    pub refused: i64,
-    pub angle: i64,
-}
+ghost use Rattle.inner_answers.specs.Angles.{innerAngle};
+ghost use Rattle.inner_earth.specs.Given.{inTt, inUt};
 
 // The mean obliquity at a TT instant.
 #[no_mangle]
@@ -40,19 +35,4 @@ pub extern "C" fn inner_sidereal(ut: i64) -> InnerAngle
     ensures { λ r. ⌜ r ≡ innerAngle (angleAnswer (siderealAt (inUt ut))) ⌝ }
 {
     angle_out(sidereal::sidereal(Ut(ut)))
-}
-
-fn angle_out(a: Angle) -> InnerAngle
-    ensures { λ r. ⌜ r ≡ innerAngle (angleAnswer a) ⌝ }
-{
-    match a {
-        Angle::Of(angle) => InnerAngle {
-            refused: 0,
-            angle: angle,
-        },
-        Angle::Refused(r) => InnerAngle {
-            refused: refusals::number(r),
-            angle: 0,
-        },
-    }
 }

@@ -40,14 +40,8 @@ row-test : (f : ℕ → Bool) (l k : ℕ) → T (every (λ l. every (λ k. f (ge
 row-test f l k t g h =
     every-at (λ k. f (getD (row l) k 0)) 12 k (every-at (λ l. every (λ k. f (getD (row l) k 0)) 12) 2 l t g) h
 
-pub row-days-ge : (l k : ℕ) → l < 2 → k < 12 → 28 ≤ getD (row l) k 0
-row-days-ge l k g h = leb→le 28 (getD (row l) k 0) (row-test (λ d. leb 28 d) l k tt g h)
-
 pub row-days-le : (l k : ℕ) → l < 2 → k < 12 → getD (row l) k 0 ≤ 31
 row-days-le l k g h = leb→le (getD (row l) k 0) 31 (row-test (λ d. leb d 31) l k tt g h)
-
-pub months-ge : (y k : ℕ) → k < 12 → 28 ≤ getD (months y) k 0
-months-ge y k h = rw (months-row y) (row-days-ge (leap y) k (leap-lt y) h)
 
 pub months-le : (y k : ℕ) → k < 12 → getD (months y) k 0 ≤ 31
 months-le y k h = rw (months-row y) (row-days-le (leap y) k (leap-lt y) h)

@@ -63,15 +63,6 @@ not-lt (pos a) (negsuc b) h = absurd (omega arith)
 not-lt (negsuc a) (pos b) h = refl
 not-lt (negsuc a) (negsuc b) h = le-ltb a b (omega arith)
 
-pub le-test : (x y : ℤ) → leZ x y ≡ not (ltZ y x)
-le-test x y = go (leZ x y) (ltZ y x) refl refl
-  where
-    go : (a b : Bool) → leZ x y ≡ a → ltZ y x ≡ b → a ≡ not b
-    go true true p q = absurd (omega (arith, leZ-true x y p, ltZ-true y x q))
-    go true false p q = refl
-    go false true p q = refl
-    go false false p q = sym p ∙ yes (leZ x y) (le-of-sizes x y (ltZ-false y x q) .le)
-
 pub between-iff : (low high z : ℤ) → between low high z ≡ true ↔ Between low high z
 between-iff low high z = (
   λ e.

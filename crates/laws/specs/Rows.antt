@@ -12,14 +12,6 @@ use Rattle.rules.specs.Calendar.{Fall, fall}
 
 -- ---- sums of the first spans
 
-pub sum-cons : (n : ℕ) (ns : List ℕ) → sum (n ∷ ns) ≡ n + sum ns
-unfolding sum
-sum-cons n ns = refl
-
-pub sum-nil : sum [] ≡ 0
-unfolding sum
-sum-nil = refl
-
 none-at : (i : ℕ) → _≡_ {A = ℕ} (getD [] i 0) 0
 none-at zero = refl
 none-at (suc i) = refl

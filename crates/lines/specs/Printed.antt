@@ -1,19 +1,14 @@
 -- What is printed for a moment, for a line, and into a room of any length. Definitions only.
 use Prim.Native.Nat.{ℕ}
 use mathlib.Core.Bool.{cond}
-use mathlib.Core.List.{List, [], _++_}
+use mathlib.Core.List.{List, []}
 use lib.Dec.{ltb}
-use lib.IntN.{ℤ}
 use lib.ListN.{length}
 use Rattle.rules.specs.declared.Moment.{Moment}
 use Rattle.rules.specs.Calendar.{dayNumber}
 use Rattle.rules.specs.Dates.{instants}
 use Rattle.rules.specs.Lines.{lineOf}
-use Rattle.rules.specs.Times.{decimal, answerLine, printed, overlaid}
-use Rattle.laws.specs.Times.{refusedText}
-
-abbrev pub refusedTo : ℤ → List ℕ
-refusedTo number = refusedText ++ decimal number
+use Rattle.rules.specs.Times.{answerLine, printed, overlaid}
 
 abbrev pub answerTo : Moment → List ℕ
 answerTo m = answerLine (dayNumber (m .date)) (instants m)

@@ -17,7 +17,7 @@ ghost use mathlib.Core.Path.{_≡_};
 ghost use Rattle.rules.specs.Arguments as rule;
 ghost use Rattle.rules.specs.Nutation.{termAngle, nutation, nutationAt};
 ghost use Rattle.laws.specs.Instant.{InRange};
-ghost use Rattle.nutation_terms.specs.Terms.{productsOf};
+ghost use Rattle.nutation.specs.Products.{productsOf};
 ghost use Rattle.nutation_terms.specs.TermFits.{ArgumentsFit, TermFits};
 
 // Nutation in longitude and in obliquity.

@@ -1,11 +1,9 @@
--- The terms of nutation by their place in the table, and a term's products.
+-- The terms of nutation by their place in the table.
 use Prim.Native.Nat.{ℕ}
 use lib.ListN.{getD}
-use Rattle.rules.specs.declared.Tt.{Tt}
 use Rattle.rules.specs.declared.Term.{Term}
-use Rattle.rules.specs.declared.Nutation.{Nutation}
 use Rattle.rules.specs.Units.{+_}
-use Rattle.rules.specs.Nutation.{row, terms, longitudeProduct, obliquityProduct}
+use Rattle.rules.specs.Nutation.{row, terms}
 
 -- what stands past the table's end
 abbrev pub noTerm : Term
@@ -13,7 +11,3 @@ noTerm = row (+ 0, + 0, + 0, + 0, + 0, + 0, + 0, + 0, + 0)
 
 abbrev pub termAt : ℕ → Term
 termAt k = getD terms k noTerm
-
--- a term's two products, before they are summed
-abbrev pub productsOf : Tt → Term → Nutation
-productsOf t m = record { longitude = longitudeProduct t m; obliquity = obliquityProduct t m }

@@ -45,7 +45,7 @@ pub fn place_in(n: Night, s: Star) -> Place
     ensures { λ r. ⌜ r ≡ rule.placeIn n s ⌝ }
 {
     let v = steps::apparent(n, s);
-    readings::readings(v, steps::overhead(n, v))
+    readings::readings(v, night_turns::overhead(n, v))
 }
 
 // The place at instants of a date: 5, then 6.

@@ -5,7 +5,7 @@ use asking::Asked;
 use asking::asked_of;
 use entries::worked;
 use entry_lines::put_entry;
-use lines::printing::put_refused;
+use number_lines::put_refused;
 use rules::Listed;
 use rules::Night;
 use rules::Prepared;

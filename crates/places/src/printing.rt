@@ -30,7 +30,7 @@ fn print_entries(file: &[u8], count: usize, night: Night, people: bool)
 // Prints `refused ` and the number.
 fn print_refused(number: i64) {
     let mut out = [0u8; 64];
-    let n = lines::printing::put_refused(number, &mut out);
+    let n = number_lines::put_refused(number, &mut out);
     out[n] = b'\n';
     let end = n + 1;
     io::write_all(1, &out[..end]);

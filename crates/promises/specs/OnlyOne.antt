@@ -25,6 +25,8 @@ pub mod Instants
 pub mod Stars
 pub mod NightParts
 pub mod Night
+pub mod Catalogue
+pub mod NightTurns
 pub mod Steps
 pub mod Place
 pub mod StarBytes
@@ -41,6 +43,7 @@ pub mod NightList
 pub mod Decimals
 pub mod Numerals
 pub mod Fields
+pub mod NumberLines
 pub mod Lines
 pub mod Asking
 pub mod Sexagesimal
@@ -48,6 +51,7 @@ pub mod EntryLines
 pub mod PlaceLines
 pub mod Answers
 pub mod Module
+pub mod InnerAnswers
 pub mod Inner
 pub mod InnerDates
 pub mod InnerEarth

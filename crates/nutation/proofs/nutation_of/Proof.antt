@@ -18,7 +18,8 @@ use Rattle.rules.specs.Nutation.{terms, longitudeProduct, obliquityProduct, tot
 use Rattle.laws.specs.Instant.{InRange}
 use Rattle.laws.specs.Nutation.{longitude-product-le, obliquity-product-le, total-next, ten-terms}
 use Rattle.words.specs.Holds.{Holds, bits, _+ʷ_, got, lit, bounded, add-to, add-to-ok}
-use Rattle.nutation_terms.specs.Terms.{noTerm, termAt, productsOf}
+use Rattle.nutation_terms.specs.Terms.{noTerm, termAt}
+use Rattle.nutation.specs.Products.{productsOf}
 use Rattle.nutation_terms.specs.TermFits.{term-fits}
 use Rattle.nutation.proofs.nutation_of.Statement.{statement}
 use Rattle.nutation.proofs.nutation_of.Tie as tie

@@ -10,8 +10,6 @@ use denote.Ref.{now}
 use Rattle.promises.specs.Contracts.{OneAnswerAndContent, one-each}
 use Rattle.lines.proofs.print_line as print-line
 use Rattle.lines.proofs.print_into as print-into
-use Rattle.lines.proofs.printing.put_refused as put-refused
-use Rattle.lines.proofs.printing.put_answer as put-answer
 use Rattle.lines.proofs.printing.put_instants as put-instants
 use Rattle.lines.proofs.printing.put_moment as put-moment
 use Rattle.lines.proofs.printing.put_line as put-line
@@ -24,14 +22,6 @@ module _ {M : Type 1} (𝓤 : URA M) (H : Heap 𝓤) (A : Atoms 𝓤) (mem : Mem
   pub print-into-one : OneAnswerAndContent 𝓤 print-into.ended (print-into.clauses 𝓤 H A mem run)
       (λ κs x. now (x .1 .0))
   print-into-one κs passed g r s x y = one-each 𝓤 r s _ _ _ _
-
-  pub put-refused-one : OneAnswerAndContent 𝓤 put-refused.ended (put-refused.clauses 𝓤 H A mem run)
-      (λ κs x. now (x .1 .0))
-  put-refused-one κs passed g r s x y = one-each 𝓤 r s _ _ _ _
-
-  pub put-answer-one : OneAnswerAndContent 𝓤 put-answer.ended (put-answer.clauses 𝓤 H A mem run)
-      (λ κs x. now (x .1 .1 .1 .0))
-  put-answer-one κs passed g r s x y = one-each 𝓤 r s _ _ _ _
 
   pub put-instants-one : OneAnswerAndContent 𝓤 put-instants.ended (put-instants.clauses 𝓤 H A mem run)
       (λ κs x. now (x .1 .1 .0))

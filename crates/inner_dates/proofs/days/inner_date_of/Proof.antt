@@ -3,7 +3,7 @@ use mathlib.Core.Path.{ap, _∙_}
 use borrow.Author.Needs.{needs}
 use mir.Facts.{toZ-ofZ}
 use Rattle.rules.specs.Answers.{datedAnswer}
-use Rattle.inner_dates.specs.Dates.{innerDate}
+use Rattle.inner_answers.specs.Dates.{innerDate}
 use Rattle.inner_dates.proofs.days.inner_date_of.Statement.{statement}
 use Rattle.inner_dates.proofs.days.inner_date_of.Tie as tie
 

@@ -3,7 +3,7 @@ use mathlib.Core.Path.{ap, _∙_}
 use borrow.Author.Needs.{needs}
 use mir.Facts.{toZ-ofZ}
 use Rattle.rules.specs.Answers.{instantsAnswer}
-use Rattle.inner_dates.specs.Dates.{innerInstants}
+use Rattle.inner_answers.specs.Dates.{innerInstants}
 use Rattle.inner_dates.proofs.moments.inner_instants.Statement.{statement}
 use Rattle.inner_dates.proofs.moments.inner_instants.Tie as tie
 

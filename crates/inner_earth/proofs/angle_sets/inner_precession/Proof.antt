@@ -3,7 +3,7 @@ use mathlib.Core.Path.{ap, _∙_}
 use borrow.Author.Needs.{needs}
 use mir.Facts.{toZ-ofZ}
 use Rattle.rules.specs.Answers.{precessedAnswer}
-use Rattle.inner_earth.specs.Angles.{innerPrecessed}
+use Rattle.inner_answers.specs.Angles.{innerPrecessed}
 use Rattle.inner_earth.proofs.angle_sets.inner_precession.Statement.{statement}
 use Rattle.inner_earth.proofs.angle_sets.inner_precession.Tie as tie
 

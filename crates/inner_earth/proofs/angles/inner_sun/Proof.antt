@@ -3,7 +3,7 @@ use mathlib.Core.Path.{ap, _∙_}
 use borrow.Author.Needs.{needs}
 use mir.Facts.{toZ-ofZ}
 use Rattle.rules.specs.Answers.{angleAnswer}
-use Rattle.inner_earth.specs.Angles.{innerAngle}
+use Rattle.inner_answers.specs.Angles.{innerAngle}
 use Rattle.inner_earth.proofs.angles.inner_sun.Statement.{statement}
 use Rattle.inner_earth.proofs.angles.inner_sun.Tie as tie
 

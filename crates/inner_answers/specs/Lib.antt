@@ -1,0 +1,3 @@
+-- What the tests get.
+pub mod Angles
+pub mod Dates

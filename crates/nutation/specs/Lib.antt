@@ -1,0 +1,2 @@
+-- What the clauses of `nutation` cite.
+pub mod Products
