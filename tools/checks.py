@@ -29,12 +29,14 @@ def main() -> None:
     edits: dict[str, list[int]] = {name: [] for name in proofs}
     for name, seconds in re.findall(r"^rt: must-fail (\w+)/\w+: refused.* (\d+) s\)$", log, re.M):
         edits[name].append(int(seconds))
+    machine = re.search(r"^machine: (.+)$", log, re.M)
     passed = re.search(r"^(\d+) passed, 0 failed$", log, re.M)
     parts = re.findall(r"^== (.+): passed \((\d+) s\)$", log, re.M)
-    if not passed or not parts:
+    if not machine or not passed or not parts:
         sys.exit("the log is not of a gate that passed")
 
-    lines = [HEAD, f"`rt ci`: {passed[0]}; {len(proofs)} crates, {sum(map(len, edits.values()))} edits.\n\n"]
+    lines = [HEAD, f"`rt ci`: {passed[0]}; {len(proofs)} crates, {sum(map(len, edits.values()))} edits.\n"]
+    lines.append(f"Taken on {machine[1]}; another machine may take a half more or less.\n\n")
     lines.append("| part of the gate | time |\n|-|-|\n")
     lines += [f"| {name} | {minutes(int(seconds))} |\n" for name, seconds in parts]
     lines.append(f"| all | {minutes(sum(int(seconds) for _, seconds in parts))} |\n\n")
