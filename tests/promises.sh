@@ -27,7 +27,8 @@ stands() { # stands NAME: 0 where the file has it, 1 where not, 2 where it is no
             crate=${name%%::*}
             function_of "$crate" "${name##*::}" ;;
         *:*)
-            [ -e "crates/${name%%:*}/must-fail/${name#*:}.edit" ] ;;
+            [ -e "crates/${name%%:*}/must-fail/${name#*:}.edit" ] \
+                || [ -e "crates/${name%%:*}/must-fail/further/${name#*:}.edit" ] ;;
         */*.*)
             crate=${name%%/*} rest=${name#*/}
             declared "crates/$crate/specs/${rest%%.*}.antt" "${rest#*.}" ;;
@@ -46,11 +47,20 @@ while read -r name; do
 done < <(sed -n '/^## Demands/,/^## What is assumed/p' $page | grep -o '`[^` ]*`' | tr -d '`' | sort -u)
 
 # and the other way round: every edit stands on the page
-for edit in crates/*/must-fail/*.edit; do
+for edit in crates/*/must-fail/*.edit crates/*/must-fail/further/*.edit; do
     crate=${edit#crates/}
     name=${crate%%/*}:$(basename "$edit" .edit)
     grep -q "^| .$name. |" $page || { printf 'not on the page: %s\n' "$name"; missing=$((missing + 1)); }
 done
+
+# every sentence has two edits or more that rt ci tries itself
+while read -r row; do
+    tried=0
+    for name in $(grep -o '`[a-z_0-9]*:[a-z_0-9]*`' <<<"$row" | tr -d '`'); do
+        [ ! -e "crates/${name%%:*}/must-fail/${name#*:}.edit" ] || tried=$((tried + 1))
+    done
+    [ $tried -ge 2 ] || { printf 'not two edits: %.60s\n' "$row"; missing=$((missing + 1)); }
+done < <(sed -n '/^## Demands/,/^## The edits/p' $page | grep -E '^\| (D[1-3][a-e]?|One|[0-9]+) \|')
 
 # the functions of a source file that another crate can call
 public() { # public FILE
