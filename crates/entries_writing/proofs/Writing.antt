@@ -14,7 +14,7 @@ use Rattle.rules.specs.StarList.{fileLength, recordOf}
 use Rattle.rules.specs.ListReading.{leaving}
 use Rattle.rules.specs.ListWriting.{starsOf, roomRefused, writtenOf}
 use Rattle.rules.specs.ListWriting.{listWritten, roomAfterWrite}
-use Rattle.rules.specs.Place.{starRefused}
+use Rattle.rules.specs.Stars.{starRefused}
 use Rattle.laws.specs.Records.{acceptedIn, accepted-le, accepted-snoc, any-counted}
 use Rattle.laws.specs.FileLength.{records, record-length, records-length, headOf, starsOf-length}
 use Rattle.laws.specs.ListWriting.{write-accepted}

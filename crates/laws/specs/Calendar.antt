@@ -8,9 +8,9 @@ use lib.Dec.{T, eqb, leb, leb→le, eqb→eq}
 use lib.ListN.{length, take, getD}
 use lib.IntN.{pos}
 use Rattle.rules.specs.declared.Date.{Date}
-use Rattle.rules.specs.Years.{daysPerMonth, leap, months, sum, upFrom, years}
+use Rattle.rules.specs.Years.{daysPerMonth, leap, months, sum, upFrom, years, Fall, fall}
 use Rattle.rules.specs.Calendar.{daysBefore2000}
-use Rattle.rules.specs.Calendar.{dayCount, Fall, fall, dateOfCount}
+use Rattle.rules.specs.Calendar.{dayCount, dateOfCount}
 use Rattle.laws.specs.Every.{every, every-at}
 use Rattle.laws.specs.Rows.{sum-take-le, place-lt, Falls, falls, fall-one}
 

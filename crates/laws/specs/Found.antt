@@ -9,8 +9,8 @@ use lib.IntN.{ℤ, pos, natAbs, _+ℤ_, _-ℤ_}
 use borrow.Author.Tests.{ltb-true, ltb-false}
 use Rattle.integers.specs.Difference.{eq-of-parts, add-is, sub-is}
 use Rattle.rules.specs.declared.Date.{Date}
-use Rattle.rules.specs.Years.{leap, months, sum, years}
-use Rattle.rules.specs.Calendar.{dayCount, dayNumber, fall, dateOfCount}
+use Rattle.rules.specs.Years.{leap, months, sum, years, fall}
+use Rattle.rules.specs.Calendar.{dayCount, dayNumber, dateOfCount}
 use Rattle.laws.specs.Ranges.{InRange}
 use Rattle.laws.specs.Rows.{sum-take-suc, fall-one}
 use Rattle.laws.specs.Calendar.{row, leap-lt, months-row, years-before, year-days}

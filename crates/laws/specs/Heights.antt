@@ -13,7 +13,8 @@ use Rattle.rules.specs.declared.Direction.{Direction}
 use Rattle.rules.specs.Length.{root, square, squares}
 use Rattle.rules.specs.Turning.{Accepted}
 use Rattle.rules.specs.Circle.{pair}
-use Rattle.rules.specs.Reading.{angleToQuarter, notCircle, reading, asHeight, height}
+use Rattle.rules.specs.Reading.{angleToQuarter, notCircle, reading}
+use Rattle.rules.specs.Heights.{asHeight, height}
 use Rattle.laws.specs.Root.{root-lt}
 use Rattle.laws.specs.Directions.{accepted-parts}
 use Rattle.laws.specs.UpTo.{UpTo}

@@ -23,7 +23,8 @@ use Rattle.rules.specs.Rounding.{rnd, remainder}
 use Rattle.rules.specs.Length.{square, squares}
 use Rattle.rules.specs.Circle.{pair}
 use Rattle.rules.specs.Turning.{Accepted}
-use Rattle.rules.specs.Place.{mostMotion, starRefused, moved, directed, precessed, aberrated, nutated, apparent}
+use Rattle.rules.specs.Stars.{mostMotion, starRefused}
+use Rattle.rules.specs.Place.{moved, directed, precessed, aberrated, nutated, apparent}
 use Rattle.rules.specs.Place.{overhead, readings}
 use Rattle.rules.specs.Place.{placeIn, placeAt, place}
 use Rattle.rules.specs.Dates.{instants}

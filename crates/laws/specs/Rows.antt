@@ -7,8 +7,7 @@ use native.Mathlib.Omega.{arith}
 use lib.Dec.{ltb}
 use lib.ListN.{length, take, getD}
 use borrow.Author.Tests.{ltb-true, ltb-false, lt-ltb, le-ltb}
-use Rattle.rules.specs.Years.{sum}
-use Rattle.rules.specs.Calendar.{Fall, fall}
+use Rattle.rules.specs.Years.{sum, Fall, fall}
 
 -- ---- sums of the first spans
 

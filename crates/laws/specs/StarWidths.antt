@@ -9,7 +9,7 @@ use lib.Signed.{mag}
 use borrow.Author.Tests.{not-false}
 use Rattle.rules.specs.declared.Star.{Star}
 use Rattle.rules.specs.Units.{circle, quarter, between, within}
-use Rattle.rules.specs.Place.{mostMotion, starRefused}
+use Rattle.rules.specs.Stars.{mostMotion, starRefused}
 use Rattle.rules.specs.StarList.{anyRefused}
 use Rattle.laws.specs.Records.{or-false}
 use Rattle.laws.specs.Units.{between-parts, within-le}

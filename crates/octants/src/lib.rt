@@ -9,6 +9,7 @@ ghost use mathlib.Core.Path.{_≡_};
 ghost use lib.IntN.{ℤ, natAbs};
 ghost use Rattle.rules.specs.Units.{quarter};
 ghost use Rattle.rules.specs.Reading as rule;
+ghost use Rattle.rules.specs.Heights.{height};
 ghost use Rattle.laws.specs.UpTo.{UpTo};
 ghost use Rattle.laws.specs.Arc.{ratio};
 ghost use Rattle.laws.specs.Heights.{HeightGiven};
@@ -78,7 +79,7 @@ pub fn reading_of(h: i64, v: i64) -> i64
 // The height of (x, y, z).
 pub fn height_of(x: i64, y: i64, z: i64) -> i64
     requires { ⌜ HeightGiven (record { x = x; y = y; z = z }) ⌝ }
-    ensures { λ r. ⌜ r ≡ rule.height (record { x = x; y = y; z = z }) ⌝ }
+    ensures { λ r. ⌜ r ≡ height (record { x = x; y = y; z = z }) ⌝ }
 {
     let a = reading_of(roots::whole_root(x * x + y * y), z);
     if HALF < a { a - CIRCLE } else { a }

@@ -12,7 +12,8 @@ use Rattle.rules.specs.declared.Night.{Night}
 use Rattle.rules.specs.declared.Starred.{Starred}
 use Rattle.rules.specs.Units.{circle}
 use Rattle.rules.specs.Refusals.{number}
-use Rattle.rules.specs.Place.{starRefused, apparent, overhead, readings, placeIn}
+use Rattle.rules.specs.Stars.{starRefused}
+use Rattle.rules.specs.Place.{apparent, overhead, readings, placeIn}
 use Rattle.rules.specs.ListReading.{noughts, freshEntry, listStar}
 use Rattle.rules.specs.NightList.{worked}
 use Rattle.laws.specs.UpTo.{UpTo}

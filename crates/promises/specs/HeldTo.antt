@@ -25,7 +25,8 @@ use Rattle.rules.specs.Circle.{exchangedPair, pairToQuarter, inQuarter, folded,
 use Rattle.rules.specs.Turning.{turn3, exchanged, turn1, turn2, turnAbout, directionRefused, turnRefused, turned}
 use Rattle.rules.specs.Chain.{Turn, turnedBy}
 use Rattle.rules.specs.Night.{siteRefused, nightAt, nightOf}
-use Rattle.rules.specs.Place.{starRefused, placeIn, place}
+use Rattle.rules.specs.Stars.{starRefused}
+use Rattle.rules.specs.Place.{placeIn, place}
 use Rattle.rules.specs.ListReading.{freshEntry}
 use Rattle.rules.specs.NightList.{worked, marked, listRefused, listedIn, nightList, workedIn, entriesAfterNight}
 use Rattle.promises.specs.Demand1.Places.{readyNight, place-checked}

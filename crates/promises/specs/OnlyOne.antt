@@ -21,6 +21,7 @@ pub mod Nutation
 pub mod Years
 pub mod Calendar
 pub mod Seconds
+pub mod TimeOfDay
 pub mod Instants
 pub mod Stars
 pub mod NightParts

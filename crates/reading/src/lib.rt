@@ -7,6 +7,7 @@ ghost use lib.IntN.{ℤ};
 ghost use Rattle.rules.specs.Length.{squares};
 ghost use Rattle.rules.specs.Turning.{Accepted};
 ghost use Rattle.rules.specs.Reading as readings;
+ghost use Rattle.rules.specs.Heights as heights;
 
 // The angle of (h, v), from the first axis towards the second.
 //
@@ -26,7 +27,7 @@ pub fn reading(h: i32, v: i32) -> i64
 // Rule: 01, "Heights and declinations".
 pub fn height(v: Direction) -> i64
     requires { ⌜ Accepted (squares v) ⌝ }
-    ensures { λ r. ⌜ r ≡ readings.height v ⌝ }
+    ensures { λ r. ⌜ r ≡ heights.height v ⌝ }
 {
     octants::height_of(v.x, v.y, v.z)
 }

@@ -3,7 +3,7 @@ use Prim.Native.Nat.{ℕ, zero, suc, _+_, _-_, _%_}
 use mathlib.Core.Bool.{cond}
 use mathlib.Core.List.{List, [], _∷_, map, foldr}
 use lib.ListN.{getD}
-use lib.Dec.{eqb}
+use lib.Dec.{eqb, ltb}
 
 -- "Days per month come from two rows, common and leap"
 abbrev pub daysPerMonth : List (List ℕ)
@@ -38,3 +38,14 @@ upFrom n (suc count) = n ∷ upFrom (suc n) count
 -- the days of each year of the span
 unfoldable pub years : List ℕ
 years = map (λ y. sum (months y)) (upFrom firstYear (lastYear - firstYear + 1))
+
+-- where day n falls in a row of spans: the index of its span, and of the day in the span, both from 0
+pub record Fall : Type 0 where
+  pub span : ℕ
+  pub day : ℕ
+
+unfoldable pub fall : List ℕ → ℕ → Fall
+fall [] n = record { span = 0; day = n }
+fall (days ∷ rest) n =
+    let later = fall rest (n - days) in
+    cond (ltb n days) (record { span = 0; day = n }) (record { span = suc (later .span); day = later .day })

@@ -2,7 +2,7 @@
 
 use rules::Star;
 ghost use mathlib.Core.Path.{_≡_};
-ghost use Rattle.rules.specs.Place.{starRefused};
+ghost use Rattle.rules.specs.Stars.{starRefused};
 ghost use Rattle.stars.specs.Numbers.{starOf};
 
 // Refusal 5: the ranges of a star.

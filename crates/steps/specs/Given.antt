@@ -3,7 +3,7 @@ use mathlib.Core.Path.{_≡_}
 use mathlib.Core.Bool.{false}
 use Rattle.rules.specs.declared.Night.{Night}
 use Rattle.rules.specs.declared.Star.{Star}
-use Rattle.rules.specs.Place.{starRefused}
+use Rattle.rules.specs.Stars.{starRefused}
 use Rattle.laws.specs.Night.{NightFits}
 
 -- a night, and a star that is not refused

@@ -13,7 +13,7 @@ ghost use mathlib.Core.Path.{_≡_};
 ghost use mathlib.Core.Bool.{cond};
 ghost use lib.ListN.{length};
 ghost use Prim.Native.Nat.{_+_, _<_, _^_};
-ghost use Rattle.rules.specs.Place.{starRefused};
+ghost use Rattle.rules.specs.Stars.{starRefused};
 ghost use Rattle.rules.specs.ListReading.{leaving};
 ghost use Rattle.laws.specs.FileLength.{headOf};
 ghost use Rattle.writing_plan.specs.Plans.{Ready, writePlan};

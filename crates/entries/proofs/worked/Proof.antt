@@ -5,7 +5,7 @@ use borrow.Author.Needs.{needs}
 use Rattle.rules.specs.declared.Star.{Star}
 use Rattle.rules.specs.declared.Place.{Place}
 use Rattle.rules.specs.declared.Entry.{Entry}
-use Rattle.rules.specs.Place.{starRefused}
+use Rattle.rules.specs.Stars.{starRefused}
 use Rattle.rules.specs.ListReading.{freshEntry}
 use Rattle.rules.specs.NightList as nights
 use Rattle.entries.proofs.worked.Statement.{statement}

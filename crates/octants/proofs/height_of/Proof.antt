@@ -10,6 +10,7 @@ use Rattle.integers.specs.Size.{square-abs}
 use Rattle.rules.specs.Units.{unit, circle, half}
 use Rattle.rules.specs.Length.{root, square}
 use Rattle.rules.specs.Reading as rule
+use Rattle.rules.specs.Heights.{asHeight, height}
 use Rattle.laws.specs.UpTo.{upTo-le}
 use Rattle.laws.specs.ReadingRange.{reading-range}
 use Rattle.words.specs.Holds.{Holds, bits, _+ʷ_, _*ʷ_, arg, got, lit, add, add-ok, sub, sub-ok, mul, mul-ok}
@@ -78,14 +79,14 @@ sub-result : tie.Need-sub-result
 sub-result c = sub-ok (angle-holds (c .before)) (lit circle tt) tt
 
 returns : tie.Need-returns
-unfolding rule.height rule.asHeight
+unfolding height asHeight
 returns c =
     let t : ltZ (pos half) (angle (c .before .before .before)) ≡ true =
     rw (angle-holds (c .before) .value) at (c .if1 .taken) in
     rw t (sub (angle-holds (c .before)) (lit circle tt) tt .value)
 
 returns-2 : tie.Need-returns-2
-unfolding rule.height rule.asHeight
+unfolding height asHeight
 returns-2 c =
     let t : ltZ (pos half) (angle (c .before .before .before)) ≡ false =
     rw (angle-holds (c .before) .value) at (c .if1 .left) in

@@ -4,7 +4,8 @@ use mathlib.Core.Bool.{false}
 use borrow.Author.Needs.{needs}
 use Rattle.rules.specs.declared.Placed.{Placed}
 use Rattle.rules.specs.Night.{siteRefused, night}
-use Rattle.rules.specs.Place.{starRefused, placeIn, placeAt}
+use Rattle.rules.specs.Stars.{starRefused}
+use Rattle.rules.specs.Place.{placeIn, placeAt}
 use Rattle.laws.specs.Night.{night-fits}
 use Rattle.place.proofs.placed.Statement.{statement}
 use Rattle.place.proofs.placed.Tie as tie

@@ -20,7 +20,7 @@ use Rattle.rules.specs.Polynomials.{instantRefused}
 use Rattle.rules.specs.Length.{lengthRefused}
 use Rattle.rules.specs.Turning.{directionRefused, turnRefused}
 use Rattle.rules.specs.Night.{siteRefused}
-use Rattle.rules.specs.Place.{starRefused}
+use Rattle.rules.specs.Stars.{starRefused}
 use Rattle.rules.specs.StarList.{countIn, anyRefused, stars}
 use Rattle.rules.specs.ListReading.{markRefused, countRefused}
 use Rattle.rules.specs.ListWriting.{starsOf, roomRefused}

@@ -16,7 +16,8 @@ use Rattle.rules.specs.declared.Listed.{Listed}
 use Rattle.rules.specs.Checks.{first}
 use Rattle.rules.specs.Refusals.{given, refused}
 use Rattle.rules.specs.Answers.{listedAnswer}
-use Rattle.rules.specs.Place.{starRefused, placeIn}
+use Rattle.rules.specs.Stars.{starRefused}
+use Rattle.rules.specs.Place.{placeIn}
 use Rattle.rules.specs.ListReading.{noughts}
 use Rattle.rules.specs.NightList.{worked, marked, listedIn, nightList, workedIn, entriesAfterNight}
 use Rattle.laws.specs.Checks.{FirstGiven}

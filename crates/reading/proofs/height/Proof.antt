@@ -3,7 +3,7 @@ use Prim.Native.Nat.{_+_}
 use mathlib.Core.Path.{_∙_}
 use borrow.Author.Needs.{needs}
 use Rattle.rules.specs.Units.{unit}
-use Rattle.rules.specs.Reading.{height}
+use Rattle.rules.specs.Heights.{height}
 use Rattle.laws.specs.Heights.{HeightGiven, height-fits}
 use Rattle.words.specs.Holds.{Holds, bits, arg}
 use Rattle.reading.proofs.height.Statement.{statement}

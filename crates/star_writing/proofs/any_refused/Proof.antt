@@ -7,7 +7,7 @@ use native.Mathlib.Omega.{arith}
 use borrow.Author.Needs.{needs}
 use lib.IntN.{pos}
 use lib.ListN.{getD, drop}
-use Rattle.rules.specs.Place.{starRefused}
+use Rattle.rules.specs.Stars.{starRefused}
 use Rattle.rules.specs.StarList.{anyRefused}
 use Rattle.rules.specs.ListWriting.{starFrom}
 use Rattle.laws.specs.Records.{each, starsFrom-each, each-more, any-of, any-snoc}

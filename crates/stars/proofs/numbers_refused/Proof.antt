@@ -7,7 +7,7 @@ use borrow.Author.Needs.{needs}
 use mir.Facts.{toZ-ofZ}
 use Rattle.words.specs.Tests.{not-taken, not-left}
 use Rattle.rules.specs.Units.{circle, quarter, between, within}
-use Rattle.rules.specs.Place.{mostMotion, starRefused}
+use Rattle.rules.specs.Stars.{mostMotion, starRefused}
 use Rattle.stars.proofs.numbers_refused.Statement.{statement}
 use Rattle.stars.proofs.numbers_refused.Tie as tie
 

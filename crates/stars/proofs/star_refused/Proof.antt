@@ -3,7 +3,7 @@ use mathlib.Core.Path.{_∙_}
 use borrow.Author.Needs.{needs, sfits-of}
 use Rattle.words.specs.Fits.{held64}
 use Rattle.words.specs.Holds.{widened, widened-ok}
-use Rattle.rules.specs.Place.{starRefused}
+use Rattle.rules.specs.Stars.{starRefused}
 use Rattle.stars.specs.Numbers.{starOf}
 use Rattle.stars.proofs.star_refused.Statement.{statement}
 use Rattle.stars.proofs.star_refused.Tie as tie

@@ -7,7 +7,7 @@ use native.Mathlib.Omega.{arith}
 use lib.ListN.{drop}
 use lib.Seq.{drop-drop}
 use borrow.Author.Needs.{needs}
-use Rattle.rules.specs.Place.{starRefused}
+use Rattle.rules.specs.Stars.{starRefused}
 use Rattle.rules.specs.StarList.{starIn, anyRefused}
 use Rattle.laws.specs.Records.{each, starsIn-each, each-more, any-of, any-snoc}
 use Rattle.star_file.proofs.reading.any_refused.Statement.{statement}

@@ -1,4 +1,4 @@
--- `seconds::time_refused` meets its contract.
+-- `time_of_day::time_refused` meets its contract.
 use mathlib.Core.Path.{_≡_, sym, _∙_}
 use mathlib.Core.Bool.{Bool, true, false}
 use lib.IntN.{pos}
@@ -11,8 +11,8 @@ use Rattle.rules.specs.declared.Time.{Time}
 use Rattle.rules.specs.Dates.{lastSecond, timeRefused}
 use Rattle.laws.specs.TimeOfDay.{last-second-le}
 use Rattle.laws.specs.Parts.{timeOfParts}
-use Rattle.seconds.proofs.time_refused.Statement.{statement}
-use Rattle.seconds.proofs.time_refused.Tie as tie
+use Rattle.time_of_day.proofs.time_refused.Statement.{statement}
+use Rattle.time_of_day.proofs.time_refused.Tie as tie
 
 is-between-requires : tie.Need-is-between-requires
 is-between-requires c κs = search needs

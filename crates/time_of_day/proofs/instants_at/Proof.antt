@@ -1,4 +1,4 @@
--- `seconds::instants_at` meets its contract.
+-- `time_of_day::instants_at` meets its contract.
 use Prim.Native.Nat.{ℕ, _+_, _*_}
 use lib.IntN.{ℤ, pos, _+ℤ_, _*ℤ_}
 use borrow.Author.Needs.{needs}
@@ -6,8 +6,8 @@ use Rattle.words.specs.Holds.{Holds, bits, _+ʷ_, _-ʷ_, _*ʷ_, lit, got, arg, 
 use Rattle.rules.specs.Dates.{taiMinusUtc}
 use Rattle.laws.specs.Seconds.{tai-le}
 use Rattle.laws.specs.Parts.{utcAt}
-use Rattle.seconds.proofs.instants_at.Statement.{statement}
-use Rattle.seconds.proofs.instants_at.Tie as tie
+use Rattle.time_of_day.proofs.instants_at.Statement.{statement}
+use Rattle.time_of_day.proofs.instants_at.Tie as tie
 
 abbrev most : ℕ
 most = 36524 * 86400000 + 86400999 + 43200000

@@ -1,9 +1,9 @@
--- `seconds::utc_ms` meets its contract.
+-- `time_of_day::utc_ms` meets its contract.
 use Prim.Native.Nat.{_+_, _*_}
 use lib.IntN.{pos, _+ℤ_, _*ℤ_}
 use Rattle.words.specs.Holds.{Holds, bits, _+ʷ_, _*ʷ_, lit, arg, add, add-ok, sub, sub-ok, mul, mul-ok}
-use Rattle.seconds.proofs.utc_ms.Statement.{statement}
-use Rattle.seconds.proofs.utc_ms.Tie as tie
+use Rattle.time_of_day.proofs.utc_ms.Statement.{statement}
+use Rattle.time_of_day.proofs.utc_ms.Tie as tie
 
 module _ (c : tie.Start) where
   day : Holds (bits (c .args .day)) (c .args .day) 36524
