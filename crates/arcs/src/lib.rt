@@ -6,7 +6,7 @@ use units::HALF;
 use units::HALF_IN_PARTS;
 use units::UNIT;
 ghost use mathlib.Core.Path.{_≡_};
-ghost use lib.IntN.{ℤ, pos, natAbs};
+ghost use lib.IntN.{pos, natAbs};
 ghost use Rattle.rules.specs.Units.{unit};
 ghost use Rattle.rules.specs.Rounding.{rnd};
 ghost use Rattle.rules.specs.Reading as rule;

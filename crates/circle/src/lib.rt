@@ -4,7 +4,6 @@
 use rules::Pair;
 use units::QUARTER;
 ghost use mathlib.Core.Path.{_≡_};
-ghost use lib.IntN.{ℤ};
 ghost use Rattle.rules.specs.Circle as circle;
 
 mod quarters;

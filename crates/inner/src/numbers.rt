@@ -1,7 +1,6 @@
 // The whole-number work of the crate `whole`.
 
 ghost use mathlib.Core.Path.{_≡_};
-ghost use lib.IntN.{ℤ};
 ghost use Rattle.inner.specs.Numbers.{rndQuotientTried, rndProductQuotientTried};
 ghost use Rattle.inner.specs.Numbers.{productTried, wholeRootTried, onCircleTried};
 

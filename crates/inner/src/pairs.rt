@@ -1,7 +1,6 @@
 // Sine and cosine, of the crate `circle`.
 
 ghost use mathlib.Core.Path.{_≡_};
-ghost use lib.IntN.{ℤ};
 ghost use Rattle.inner.specs.Pairs.{innerPair};
 
 // Cosine and sine, in parts of 2^30.

@@ -8,7 +8,6 @@ use inner_answers::angle_sets::nutated_out;
 use inner_answers::angle_sets::precessed_out;
 use rules::Tt;
 ghost use mathlib.Core.Path.{_≡_};
-ghost use lib.IntN.{ℤ};
 ghost use Rattle.rules.specs.Answers.{precessedAnswer, arguedAnswer, nutatedAnswer};
 ghost use Rattle.rules.specs.Precession.{precessionAt};
 ghost use Rattle.rules.specs.Arguments.{argumentsAt};

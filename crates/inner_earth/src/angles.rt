@@ -5,7 +5,6 @@ use inner_answers::angles::angle_out;
 use rules::Tt;
 use rules::Ut;
 ghost use mathlib.Core.Path.{_≡_};
-ghost use lib.IntN.{ℤ};
 ghost use Rattle.rules.specs.Answers.{angleAnswer};
 ghost use Rattle.rules.specs.Precession.{obliquityAt};
 ghost use Rattle.rules.specs.Sun.{sunLongitudeAt};

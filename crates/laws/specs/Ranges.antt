@@ -1,5 +1,5 @@
 -- Tests and refusals as propositions: what `between` and `same` decide, and what a passed test tells of a number.
-use mathlib.Core.Path.{_≡_, refl, sym, _∙_}
+use mathlib.Core.Path.{_≡_, refl, sym}
 use mathlib.Core.Bool.{Bool, true, false, not, _&&_}
 use mathlib.Core.Logic.{_↔_}
 use Prim.Native.Nat.{ℕ, _+_, _≤_}
@@ -8,7 +8,7 @@ use lib.Dec.{T, le→leb}
 use lib.IntN.{ℤ, pos, negsuc, natAbs}
 use lib.Signed.{ltZ, leZ, _≤ℤ_}
 use borrow.Author.Tests.{le-ltb}
-use Rattle.integers.specs.Difference.{posPart, negPart, ltZ-false, ltZ-true, leZ-true}
+use Rattle.integers.specs.Difference.{posPart, negPart, leZ-true}
 use Rattle.rules.specs.Units.{same, between}
 use Rattle.laws.specs.Units.{between-of, between-parts, same-eq, same-self}
 

@@ -8,7 +8,6 @@ use rules::Site;
 use rules::Star;
 use rules::Time;
 ghost use mathlib.Core.Path.{_≡_};
-ghost use lib.IntN.{ℤ};
 ghost use Rattle.rules.specs.Answers.{placedAnswer};
 ghost use Rattle.rules.specs.Place as rule;
 ghost use Rattle.stars.specs.Numbers.{starOf};

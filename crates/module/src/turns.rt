@@ -4,7 +4,6 @@ use answers::turns::TurbelicusTurned;
 use answers::turns::turned_out;
 use rules::Direction;
 ghost use mathlib.Core.Path.{_≡_};
-ghost use lib.IntN.{ℤ};
 ghost use Rattle.rules.specs.Answers.{turnedAnswer};
 ghost use Rattle.rules.specs.Turning as rule;
 ghost use Rattle.rules.specs.Reading.{reading};

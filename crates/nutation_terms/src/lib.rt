@@ -3,7 +3,6 @@
 use rules::Term;
 ghost use mathlib.Core.Path.{_≡_};
 ghost use Prim.Native.Nat.{_<_};
-ghost use lib.IntN.{ℤ};
 ghost use Rattle.rules.specs.Nutation.{row};
 ghost use Rattle.nutation_terms.specs.Terms.{termAt};
 

@@ -6,7 +6,7 @@ use units::HALF_QUARTER;
 use units::QUARTER;
 use units::UNIT;
 ghost use mathlib.Core.Path.{_≡_};
-ghost use lib.IntN.{ℤ, natAbs};
+ghost use lib.IntN.{natAbs};
 ghost use Rattle.rules.specs.Units.{quarter};
 ghost use Rattle.rules.specs.Reading as rule;
 ghost use Rattle.rules.specs.Heights.{height};

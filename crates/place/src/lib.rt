@@ -11,7 +11,6 @@ use rules::Star;
 use rules::Tt;
 use rules::Ut;
 ghost use mathlib.Core.Path.{_≡_};
-ghost use lib.IntN.{ℤ};
 ghost use Rattle.rules.specs.Place as rule;
 ghost use Rattle.laws.specs.Instant.{InRange};
 ghost use Rattle.rules.specs.declared.Instants.{Instants};

@@ -13,7 +13,7 @@ use rules::Starred;
 use star_file::reading::list_count;
 use star_file::reading::list_star;
 ghost use mathlib.Core.Path.{_≡_};
-ghost use Prim.Native.Nat.{ℕ, _≤_};
+ghost use Prim.Native.Nat.{_≤_};
 ghost use lib.ListN.{length};
 ghost use lib.Seq.{sets};
 ghost use Rattle.laws.specs.Night.{NightFits};

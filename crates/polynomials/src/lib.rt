@@ -6,7 +6,6 @@ use rounding::rnd_quotient;
 use units::CENTURY;
 ghost use mathlib.Core.Path.{_≡_};
 ghost use mathlib.Core.List.{[], _∷_};
-ghost use lib.IntN.{ℤ};
 ghost use Rattle.rules.specs.Polynomials.{instantRefused, step, polynomial};
 ghost use Rattle.polynomials.specs.Fits.{StepFits, PolynomialFits};
 

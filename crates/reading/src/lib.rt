@@ -3,7 +3,6 @@
 
 use rules::Direction;
 ghost use mathlib.Core.Path.{_≡_};
-ghost use lib.IntN.{ℤ};
 ghost use Rattle.rules.specs.Length.{squares};
 ghost use Rattle.rules.specs.Turning.{Accepted};
 ghost use Rattle.rules.specs.Reading as readings;

@@ -2,7 +2,6 @@
 
 use whole::is_between;
 ghost use mathlib.Core.Path.{_≡_};
-ghost use Prim.Native.Nat.{ℕ};
 ghost use lib.IntN.{ℤ, pos, natAbs};
 ghost use lib.Signed.{_≤ℤ_};
 ghost use Rattle.rules.specs.Length.{root};

@@ -1,7 +1,7 @@
 // Rnd of a quotient, document 01's one rounding. No sum or product on the way passes an i64.
 
 ghost use mathlib.Core.Path.{_≡_};
-ghost use Prim.Native.Nat.{ℕ, _≤_, _^_};
+ghost use Prim.Native.Nat.{_≤_, _^_};
 ghost use lib.IntN.{ℤ, pos, natAbs, _*ℤ_};
 ghost use lib.Signed.{_<ℤ_};
 ghost use Rattle.rules.specs.Units.{unit};

@@ -6,8 +6,6 @@ use rules::Pair;
 use units::HALF;
 use units::HALF_IN_PARTS;
 ghost use mathlib.Core.Path.{_≡_};
-ghost use Prim.Native.Nat.{ℕ};
-ghost use lib.IntN.{ℤ};
 ghost use Rattle.rules.specs.Units.{halfQuarter};
 ghost use Rattle.rules.specs.Length.{pairToLength};
 ghost use Rattle.rules.specs.Circle.{radianParts, pairOfParts};

@@ -2,8 +2,8 @@
 
 use units::UNIT;
 ghost use mathlib.Core.Path.{_≡_};
-ghost use Prim.Native.Nat.{ℕ, _≤_};
-ghost use lib.IntN.{ℤ, pos, natAbs};
+ghost use Prim.Native.Nat.{_≤_};
+ghost use lib.IntN.{pos, natAbs};
 ghost use Rattle.rules.specs.Units.{unit};
 ghost use Rattle.rules.specs.Circle as rule;
 ghost use Rattle.laws.specs.UpTo.{UpTo};

@@ -2,7 +2,7 @@
 
 use units::CIRCLE;
 ghost use mathlib.Core.Path.{_≡_};
-ghost use Prim.Native.Nat.{ℕ, _≤_, _^_};
+ghost use Prim.Native.Nat.{_≤_, _^_};
 ghost use lib.IntN.{ℤ, pos, natAbs};
 ghost use lib.Signed.{_<ℤ_};
 ghost use Rattle.rules.specs.Units.{circle, between};
