@@ -49,6 +49,9 @@ pub mod Sun
 pub mod Sidereal
 pub mod Night
 pub mod Place
+-- a night and two places worked out
+pub mod SampleNight
+pub mod SamplePlace
 -- tests: computed at each number below a bound; of ranges
 pub mod Every
 pub mod Ranges

@@ -1,20 +1,19 @@
 -- Document 01, "What an answer is held to": answers that would be too cheap, and a case that each of them breaks. That
 -- no second answer fits is `OnlyOne`.
-use mathlib.Core.Path.{_≡_, refl}
+use mathlib.Core.Path.{_≡_, refl, sym, ap, _∙_}
+use mathlib.Core.Bool.{false}
 use mathlib.Core.List.{List, [], _∷_, map}
 use Prim.Native.Nat.{ℕ}
-use lib.IntN.{ℤ, pos}
-use Rattle.rules.specs.declared.Moment.{Moment}
+use native.Mathlib.Omega.{arith}
+use lib.IntN.{ℤ, pos, natAbs}
 use Rattle.rules.specs.declared.Direction.{Direction}
 use Rattle.rules.specs.declared.Star.{Star}
-use Rattle.rules.specs.declared.Site.{Site}
 use Rattle.rules.specs.declared.Entry.{Entry}
 use Rattle.rules.specs.declared.Turned.{Turned}
 use Rattle.rules.specs.declared.Placed.{Placed}
 use Rattle.rules.specs.declared.Listed.{Listed}
 use Rattle.rules.specs.Units.{quarter, unit, +_, −_, same, between, within}
 use Rattle.rules.specs.Rounding.{rndSize, rnd, modulo}
-use Rattle.rules.specs.Checks.{first}
 use Rattle.rules.specs.Years.{leap, months, sum, upFrom, years}
 use Rattle.rules.specs.Calendar.{daysBefore2000, dayCount, dayNumber, yearRefused, monthDays, dayRefused}
 use Rattle.rules.specs.Dates.{taiMinusUtc, beforeStep, lastSecond, timeRefused, differenceRefused, instants}
@@ -26,37 +25,29 @@ use Rattle.rules.specs.Turning.{turn3, exchanged, turn1, turn2, turnAbout, dire
 use Rattle.rules.specs.Chain.{Turn, turnedBy}
 use Rattle.rules.specs.Night.{siteRefused, nightAt, nightOf}
 use Rattle.rules.specs.Stars.{starRefused}
-use Rattle.rules.specs.Place.{placeIn, place}
+use Rattle.rules.specs.Place.{place}
 use Rattle.rules.specs.ListReading.{freshEntry}
 use Rattle.rules.specs.NightList.{worked, marked, listRefused, listedIn, nightList, workedIn, entriesAfterNight}
-use Rattle.promises.specs.Demand1.Places.{readyNight, place-checked}
+use Rattle.laws.specs.SampleNight.{evening, here}
+use Rattle.laws.specs.SamplePlace.{sirius, equinox, siriusPlace, equinoxPlace, sirius-stands, equinox-stands}
 
--- ---- "Refusing everything .. breaks demand 2"
+-- ---- "Refusing everything, or one fixed place for all stars, breaks demand 2"
 
--- 20 March 2026, 20:00 UTC
-abbrev evening : Moment
-evening = record {
-  date = record { year = + 2026; month = + 3; day = + 20 };
-  time = record { hour = + 20; minute = + 0; second = + 0; ms = + 0 };
-  difference = + 0;
-}
+-- two stars, each with its place
+pub two-places : (place evening sirius here ≡ Placed.At siriusPlace) × (place evening equinox here ≡ Placed.At equinoxPlace)
+two-places = (sirius-stands, equinox-stands)
 
--- 50° 05′ 16″ north, 14° 25′ 15″ east
-abbrev here : Site
-here = record { latitude = + 180316000000; longitude = + 51915000000 }
-
-abbrev sirius : Star
-sirius = record {
-  ra = + 364633759200;
-  declination = − 60178017100;
-  «ra_motion» = − 570102;
-  «declination_motion» = − 1223070;
-}
-
-pub sirius-is-placed : place evening sirius here ≡ Placed.At (placeIn (readyNight evening here) sirius)
-unfolding first same between within leap months sum upFrom years daysBefore2000 dayCount dayNumber yearRefused monthDays
-    dayRefused taiMinusUtc beforeStep lastSecond timeRefused differenceRefused starRefused siteRefused
-sirius-is-placed = place-checked evening sirius here
+-- so no answer, be it a place or a refusal, is that of every star that is accepted
+pub no-answer-for-all : (a : Placed) → ((s : Star) → starRefused s ≡ false → place evening s here ≡ a)
+    → ⊥
+unfolding starRefused between within
+no-answer-for-all a all =
+    let same-place = sym (two-places .0) ∙ all sirius refl ∙ sym (all equinox refl) ∙ two-places .1 in
+    omega (arith, ap (λ p. natAbs (raOf p)) same-place)
+  where
+    raOf : Placed → ℤ
+    raOf (Placed.At p) = p .ra
+    raOf (Placed.Refused r) = pos 0
 
 -- ---- "Leaving the direction as it came .. Turning once and copying afterwards breaks the same definition"
 

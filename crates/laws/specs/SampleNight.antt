@@ -1,0 +1,112 @@
+-- A night worked out by the rules alone, to the last unit: 20 March 2026 at 20:00 UTC, at 50° 05′ 16″ north, 14° 25′ 15″
+-- east.
+use mathlib.Core.Path.{_≡_, refl, ap, _∙_}
+use lib.IntN.{ℤ, pos, negℤ, _+ℤ_, _-ℤ_, _*ℤ_}
+use Rattle.rules.specs.declared.Ut.{Ut}
+use Rattle.rules.specs.declared.Tt.{Tt}
+use Rattle.rules.specs.declared.Moment.{Moment}
+use Rattle.rules.specs.declared.Pair.{Pair}
+use Rattle.rules.specs.declared.Direction.{Direction}
+use Rattle.rules.specs.declared.Nutation.{Nutation}
+use Rattle.rules.specs.declared.Site.{Site}
+use Rattle.rules.specs.declared.Night.{Night}
+use Rattle.rules.specs.declared.Instants.{Instants}
+use Rattle.rules.specs.Units.{quarter, unit, +_, −_, same, between, within}
+use Rattle.rules.specs.Rounding.{rnd, rndSize, modulo, remainder}
+use Rattle.rules.specs.Years.{leap, months, sum, upFrom, years}
+use Rattle.rules.specs.Calendar.{daysBefore2000, dayCount, dayNumber, yearRefused, monthDays, dayRefused}
+use Rattle.rules.specs.Dates.{taiMinusUtc, beforeStep, lastSecond, timeRefused, msOfDay, utc, utOf, ttOf}
+use Rattle.rules.specs.Dates.{differenceRefused, instants}
+use Rattle.rules.specs.Length.{rootFrom, root, square, pairSquares, partTo, pairToLength}
+use Rattle.rules.specs.Circle.{radianParts, squareParts, stage, stages, rawSine, rawCosine, pairOfParts, pairToHalf}
+use Rattle.rules.specs.Circle.{exchangedPair, pairToQuarter, inQuarter, folded, pair}
+use Rattle.rules.specs.Polynomials.{step, polynomial}
+use Rattle.rules.specs.Precession.{precession, obliquity}
+use Rattle.rules.specs.Arguments.{arguments}
+use Rattle.rules.specs.Nutation.{termAngle, longitudeProduct, obliquityProduct, total, nutationBy, nutation}
+use Rattle.rules.specs.Sun.{meanLongitude, centreProduct, centreSum, centre, sunLongitude}
+use Rattle.rules.specs.Sidereal.{siderealPolynomial, sidereal}
+use Rattle.rules.specs.Night.{aberrationX, aberrationY, aberration, localSidereal, night}
+
+-- ---- the moment and the site
+
+abbrev pub evening : Moment
+evening = record {
+  date = record { year = + 2026; month = + 3; day = + 20 };
+  time = record { hour = + 20; minute = + 0; second = + 0; ms = + 0 };
+  difference = + 0;
+}
+
+abbrev pub here : Site
+here = record { latitude = + 180316000000; longitude = + 51915000000 }
+
+abbrev pub ut : Ut
+ut = record { 0 = + 827308800000 }
+
+abbrev pub tt′ : Tt
+tt′ = record { 0 = + 827308869184 }
+
+pub evening-is : instants evening ≡ Instants.At ut tt′
+unfolding same between within leap months sum upFrom years daysBefore2000 dayCount dayNumber yearRefused monthDays
+    dayRefused taiMinusUtc beforeStep lastSecond timeRefused msOfDay utc utOf ttOf differenceRefused instants
+evening-is = refl
+
+-- ---- the night
+
+abbrev pairOf : ℤ → ℤ → Pair
+pairOf c s = record { cosine = c; sine = s }
+
+abbrev pub direction : ℤ → ℤ → ℤ → Direction
+direction x y z = record { x = x; y = y; z = z }
+
+abbrev pub tonight : Night
+tonight = record {
+  tt = tt′;
+  zeta = pairOf (+ 1073737212) (+ 3147410);
+  theta = pairOf (+ 1073738341) (− 2735131);
+  z = pairOf (+ 1073737211) (+ 3147693);
+  aberration = direction (+ 423) (− 97890) (− 42433);
+  mean = pairOf (+ 985164275) (− 427051351);
+  longitude = pairOf (+ 1073741824) (+ 32125);
+  obliquity = pairOf (+ 985145387) (+ 427094921);
+  sidereal = pairOf (− 729340088) (− 788025725);
+  latitude = pairOf (+ 823590368) (− 688927000);
+}
+
+-- the night of a nutation and a longitude of the Sun, each worked out before
+abbrev nightBy : Nutation → ℤ → Night
+nightBy n sun = record {
+  tt = tt′;
+  zeta = pair (precession tt′ .zeta);
+  theta = pair (negℤ (precession tt′ .theta));
+  z = pair (precession tt′ .z);
+  aberration = aberration (pair sun) (pair (obliquity tt′));
+  mean = pair (negℤ (obliquity tt′));
+  longitude = pair (n .longitude);
+  obliquity = pair (obliquity tt′ +ℤ n .obliquity);
+  sidereal = pair (remainder (negℤ
+      (sidereal ut +ℤ rnd (n .longitude *ℤ pair (obliquity tt′) .cosine) unit +ℤ here .longitude)));
+  latitude = pair (remainder (here .latitude -ℤ pos quarter));
+}
+
+in-parts : night ut tt′ here ≡ nightBy (nutation tt′) (sunLongitude tt′)
+unfolding night localSidereal
+in-parts = refl
+
+-- Δψ and Δε
+abbrev nutationTonight : Nutation
+nutationTonight = record { longitude = + 6171244; obliquity = + 9122441 }
+
+parts-are : (nutation tt′ ≡ nutationTonight) × ((sunLongitude tt′ ≡ + 34992817376817)
+    × (nightBy nutationTonight (+ 34992817376817) ≡ tonight))
+unfolding rnd rndSize modulo remainder rootFrom root square pairSquares partTo pairToLength radianParts squareParts stage
+    stages rawSine rawCosine pairOfParts pairToHalf exchangedPair pairToQuarter inQuarter folded pair step polynomial
+    precession obliquity arguments termAngle longitudeProduct obliquityProduct total nutationBy nutation meanLongitude
+    centreProduct centreSum centre sunLongitude siderealPolynomial sidereal aberrationX aberrationY aberration
+parts-are = (refl, (refl, refl))
+
+pub night-is : night ut tt′ here ≡ tonight
+night-is = in-parts
+    ∙ ap (λ n. nightBy n (sunLongitude tt′)) (parts-are .0)
+    ∙ ap (nightBy nutationTonight) (parts-are .1 .0)
+    ∙ parts-are .1 .1
