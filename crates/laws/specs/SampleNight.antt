@@ -1,5 +1,5 @@
--- A night worked out by the rules alone, to the last unit: 20 March 2026 at 20:00 UTC, at 50° 05′ 16″ north, 14° 25′ 15″
--- east.
+-- A night worked out by the rules alone, to the last unit: 20 March 2026 at 20:00 UTC, at 50° 05′ 16″ north,
+-- 14° 25′ 15″ east.
 use mathlib.Core.Path.{_≡_, refl, ap, _∙_}
 use lib.IntN.{ℤ, pos, negℤ, _+ℤ_, _-ℤ_, _*ℤ_}
 use Rattle.rules.specs.declared.Ut.{Ut}
@@ -99,10 +99,11 @@ nutationTonight = record { longitude = + 6171244; obliquity = + 9122441 }
 
 parts-are : (nutation tt′ ≡ nutationTonight) × ((sunLongitude tt′ ≡ + 34992817376817)
     × (nightBy nutationTonight (+ 34992817376817) ≡ tonight))
-unfolding rnd rndSize modulo remainder rootFrom root square pairSquares partTo pairToLength radianParts squareParts stage
-    stages rawSine rawCosine pairOfParts pairToHalf exchangedPair pairToQuarter inQuarter folded pair step polynomial
-    precession obliquity arguments termAngle longitudeProduct obliquityProduct total nutationBy nutation meanLongitude
-    centreProduct centreSum centre sunLongitude siderealPolynomial sidereal aberrationX aberrationY aberration
+unfolding rnd rndSize modulo remainder rootFrom root square pairSquares partTo pairToLength radianParts squareParts
+    stage stages rawSine rawCosine pairOfParts pairToHalf exchangedPair pairToQuarter inQuarter folded pair step
+    polynomial precession obliquity arguments termAngle longitudeProduct obliquityProduct total nutationBy nutation
+    meanLongitude centreProduct centreSum centre sunLongitude siderealPolynomial sidereal aberrationX aberrationY
+    aberration
 parts-are = (refl, (refl, refl))
 
 pub night-is : night ut tt′ here ≡ tonight

@@ -98,10 +98,11 @@ sirius-steps : Steps sirius
     (direction (− 206355928) (+ 1007234924) (− 309542475))
     (direction (+ 873118475) (− 532719333) (+ 326796185))
     siriusPlace
-unfolding rnd rndSize modulo remainder rootFrom root square squares partTo toLength radianParts squareParts stage stages
-    rawSine rawCosine pairSquares pairToLength pairOfParts pairToHalf exchangedPair pairToQuarter inQuarter folded pair
-    same turn3 exchanged turn1 turn2 turnAbout turnBy moved directed precessed aberrated nutated overhead readings arcStage
-    arcStages arc inMicroarcseconds flat tangent angleToHalf angleToQuarter bySigns notCircle reading asHeight height
+unfolding rnd rndSize modulo remainder rootFrom root square squares partTo toLength radianParts squareParts stage
+    stages rawSine rawCosine pairSquares pairToLength pairOfParts pairToHalf exchangedPair pairToQuarter inQuarter
+    folded pair same turn3 exchanged turn1 turn2 turnAbout turnBy moved directed precessed aberrated nutated overhead
+    readings arcStage arcStages arc inMicroarcseconds flat tangent angleToHalf angleToQuarter bySigns notCircle
+    reading asHeight height
 sirius-steps = record {
   step2 = refl;
   step3 = refl;
@@ -118,10 +119,11 @@ equinox-steps : Steps equinox
     (direction (+ 1073720362) (+ 6226531) (+ 2705739))
     (direction (− 557644263) (− 792239349) (− 462937571))
     equinoxPlace
-unfolding rnd rndSize modulo remainder rootFrom root square squares partTo toLength radianParts squareParts stage stages
-    rawSine rawCosine pairSquares pairToLength pairOfParts pairToHalf exchangedPair pairToQuarter inQuarter folded pair
-    same turn3 exchanged turn1 turn2 turnAbout turnBy moved directed precessed aberrated nutated overhead readings arcStage
-    arcStages arc inMicroarcseconds flat tangent angleToHalf angleToQuarter bySigns notCircle reading asHeight height
+unfolding rnd rndSize modulo remainder rootFrom root square squares partTo toLength radianParts squareParts stage
+    stages rawSine rawCosine pairSquares pairToLength pairOfParts pairToHalf exchangedPair pairToQuarter inQuarter
+    folded pair same turn3 exchanged turn1 turn2 turnAbout turnBy moved directed precessed aberrated nutated overhead
+    readings arcStage arcStages arc inMicroarcseconds flat tangent angleToHalf angleToQuarter bySigns notCircle
+    reading asHeight height
 equinox-steps = record {
   step2 = refl;
   step3 = refl;

@@ -34,7 +34,8 @@ use Rattle.laws.specs.SamplePlace.{sirius, equinox, siriusPlace, equinoxPlace, 
 -- ---- "Refusing everything, or one fixed place for all stars, breaks demand 2"
 
 -- two stars, each with its place
-pub two-places : (place evening sirius here ≡ Placed.At siriusPlace) × (place evening equinox here ≡ Placed.At equinoxPlace)
+pub two-places : (place evening sirius here ≡ Placed.At siriusPlace)
+    × (place evening equinox here ≡ Placed.At equinoxPlace)
 two-places = (sirius-stands, equinox-stands)
 
 -- so no answer, be it a place or a refusal, is that of every star that is accepted
@@ -64,8 +65,8 @@ pub quarter-turns :
     ≡ Turned.To (onEquator (− unit) (+ 0)))
 unfolding same between within rnd rndSize modulo rootFrom root square pairSquares squares partTo pairToLength toLength
     lengthRefused broughtToLength radianParts squareParts stage stages rawSine rawCosine pairOfParts pairToHalf
-    exchangedPair pairToQuarter inQuarter folded pair turn3 exchanged turn1 turn2 turnAbout directionRefused turnRefused
-    turned
+    exchangedPair pairToQuarter inQuarter folded pair turn3 exchanged turn1 turn2 turnAbout directionRefused
+    turnRefused turned
 quarter-turns = (refl, refl)
 
 -- ---- "A night list that marks nothing, or gives an invented count, breaks the Lists section"
@@ -81,7 +82,7 @@ markOf e = e .mark
 
 pub one-of-two : (nightList evening here twoEntries ≡ Listed.Count 1)
     × (map markOf (entriesAfterNight evening here twoEntries) ≡ 0 ∷ 5 ∷ [])
-unfolding nightList listedIn marked worked listRefused workedIn entriesAfterNight freshEntry nightOf nightAt instants same
-    between within leap months sum upFrom years daysBefore2000 dayCount dayNumber yearRefused monthDays dayRefused
-    taiMinusUtc beforeStep lastSecond timeRefused differenceRefused starRefused siteRefused
+unfolding nightList listedIn marked worked listRefused workedIn entriesAfterNight freshEntry nightOf nightAt instants
+    same between within leap months sum upFrom years daysBefore2000 dayCount dayNumber yearRefused monthDays
+    dayRefused taiMinusUtc beforeStep lastSecond timeRefused differenceRefused starRefused siteRefused
 one-of-two = (refl, refl)
