@@ -49,14 +49,17 @@ target() {
 
 machine() {
     local name
-    name=$(sed -n 's/^model name[^:]*: *//p' /proc/cpuinfo 2>/dev/null | head -n 1)
+    name=$(lscpu | sed -n 's/^Model name: *//p' | head -n 1)
     echo "$(uname -m)${name:+, $name}"
 }
 
-# shares WORK: where its instructions go, by what callgrind knows as functions; what is inlined counts for its caller
+# shares WORK: where its instructions go, by what callgrind knows as functions; what is inlined counts for its caller, and
+# the parts that callgrind makes of a function, as f and f'2, are one
 shares() {
     callgrind_annotate "$out/$1.callgrind" |
-        sed -n 's/^ *[0-9,]* ( *\([0-9.]*\)%)  .*???:\([^ ]*\) .*/| `\2` | \1 % |/p'
+        sed -n "s/^ *[0-9,]* ( *\([0-9.]*\)%)  .*???:\([^ ']*\)['0-9]* .*/\1 \2/p" |
+        awk '{ share[$2] += $1 } END { for (name in share) printf "%.2f %s\n", share[name], name }' |
+        sort -rn | sed 's/^\([0-9.]*\) \(.*\)/| `\2` | \1 % |/'
 }
 
 # rows WHAT WORK OURS THEIRS MOST: instructions beside their target, and places a second
