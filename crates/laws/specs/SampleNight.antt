@@ -40,13 +40,13 @@ evening = record {
 abbrev pub here : Site
 here = record { latitude = + 180316000000; longitude = + 51915000000 }
 
-abbrev pub ut : Ut
-ut = record { 0 = + 827308800000 }
+abbrev pub utNow : Ut
+utNow = record { 0 = + 827308800000 }
 
-abbrev pub tt′ : Tt
-tt′ = record { 0 = + 827308869184 }
+abbrev pub ttNow : Tt
+ttNow = record { 0 = + 827308869184 }
 
-pub evening-is : instants evening ≡ Instants.At ut tt′
+pub evening-is : instants evening ≡ Instants.At utNow ttNow
 unfolding same between within leap months sum upFrom years daysBefore2000 dayCount dayNumber yearRefused monthDays
     dayRefused taiMinusUtc beforeStep lastSecond timeRefused msOfDay utc utOf ttOf differenceRefused instants
 evening-is = refl
@@ -61,7 +61,7 @@ direction x y z = record { x = x; y = y; z = z }
 
 abbrev pub tonight : Night
 tonight = record {
-  tt = tt′;
+  tt = ttNow;
   zeta = pairOf (+ 1073737212) (+ 3147410);
   theta = pairOf (+ 1073738341) (− 2735131);
   z = pairOf (+ 1073737211) (+ 3147693);
@@ -76,20 +76,20 @@ tonight = record {
 -- the night of a nutation and a longitude of the Sun, each worked out before
 abbrev nightBy : Nutation → ℤ → Night
 nightBy n sun = record {
-  tt = tt′;
-  zeta = pair (precession tt′ .zeta);
-  theta = pair (negℤ (precession tt′ .theta));
-  z = pair (precession tt′ .z);
-  aberration = aberration (pair sun) (pair (obliquity tt′));
-  mean = pair (negℤ (obliquity tt′));
+  tt = ttNow;
+  zeta = pair (precession ttNow .zeta);
+  theta = pair (negℤ (precession ttNow .theta));
+  z = pair (precession ttNow .z);
+  aberration = aberration (pair sun) (pair (obliquity ttNow));
+  mean = pair (negℤ (obliquity ttNow));
   longitude = pair (n .longitude);
-  obliquity = pair (obliquity tt′ +ℤ n .obliquity);
+  obliquity = pair (obliquity ttNow +ℤ n .obliquity);
   sidereal = pair (remainder (negℤ
-      (sidereal ut +ℤ rnd (n .longitude *ℤ pair (obliquity tt′) .cosine) unit +ℤ here .longitude)));
+      (sidereal utNow +ℤ rnd (n .longitude *ℤ pair (obliquity ttNow) .cosine) unit +ℤ here .longitude)));
   latitude = pair (remainder (here .latitude -ℤ pos quarter));
 }
 
-in-parts : night ut tt′ here ≡ nightBy (nutation tt′) (sunLongitude tt′)
+in-parts : night utNow ttNow here ≡ nightBy (nutation ttNow) (sunLongitude ttNow)
 unfolding night localSidereal
 in-parts = refl
 
@@ -97,7 +97,7 @@ in-parts = refl
 abbrev nutationTonight : Nutation
 nutationTonight = record { longitude = + 6171244; obliquity = + 9122441 }
 
-parts-are : (nutation tt′ ≡ nutationTonight) × ((sunLongitude tt′ ≡ + 34992817376817)
+parts-are : (nutation ttNow ≡ nutationTonight) × ((sunLongitude ttNow ≡ + 34992817376817)
     × (nightBy nutationTonight (+ 34992817376817) ≡ tonight))
 unfolding rnd rndSize modulo remainder rootFrom root square pairSquares partTo pairToLength radianParts squareParts
     stage stages rawSine rawCosine pairOfParts pairToHalf exchangedPair pairToQuarter inQuarter folded pair step
@@ -106,8 +106,8 @@ unfolding rnd rndSize modulo remainder rootFrom root square pairSquares partTo p
     aberration
 parts-are = (refl, (refl, refl))
 
-pub night-is : night ut tt′ here ≡ tonight
+pub night-is : night utNow ttNow here ≡ tonight
 night-is = in-parts
-    ∙ ap (λ n. nightBy n (sunLongitude tt′)) (parts-are .0)
+    ∙ ap (λ n. nightBy n (sunLongitude ttNow)) (parts-are .0)
     ∙ ap (nightBy nutationTonight) (parts-are .1 .0)
     ∙ parts-are .1 .1

@@ -20,13 +20,13 @@ use Rattle.rules.specs.Night.{night, siteRefused}
 use Rattle.rules.specs.Stars.{starRefused}
 use Rattle.rules.specs.Place.{moved, directed, precessed, aberrated, nutated, apparent, overhead, readings, placeIn}
 use Rattle.rules.specs.Place.{placeAt, place}
-use Rattle.laws.specs.SampleNight.{evening, here, ut, tt′, evening-is, direction, tonight, night-is}
+use Rattle.laws.specs.SampleNight.{evening, here, utNow, ttNow, evening-is, direction, tonight, night-is}
 
 -- ---- the six steps
 
 -- what the steps of a star come to: v2 is the direction after steps 1 and 2, v3 after step 3, and so on
 record Steps (s : Star) (v2 v3 v4 v5 v6 : Direction) (p : Place) : Type 0 where
-  step2 : directed (moved tt′ (s .ra) (s .«ra_motion»)) (moved tt′ (s .declination) (s .«declination_motion»)) ≡ v2
+  step2 : directed (moved ttNow (s .ra) (s .«ra_motion»)) (moved ttNow (s .declination) (s .«declination_motion»)) ≡ v2
   step3 : precessed tonight v2 ≡ v3
   step4 : aberrated tonight v3 ≡ v4
   step5 : nutated tonight v4 ≡ v5
@@ -48,7 +48,7 @@ place-of-steps s {v5 = v5} h =
     seen v = readings v (overhead tonight v)
 
 answered : (s : Star) → starRefused s ≡ false
-    → placeAt (Instants.At ut tt′) s here ≡ Placed.At (placeIn (night ut tt′ here) s)
+    → placeAt (Instants.At utNow ttNow) s here ≡ Placed.At (placeIn (night utNow ttNow here) s)
 unfolding placeAt siteRefused between within
 answered s h = rw h
 
