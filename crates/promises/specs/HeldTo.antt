@@ -26,7 +26,7 @@ use Rattle.rules.specs.Chain.{Turn, turnedBy}
 use Rattle.rules.specs.Night.{siteRefused, nightAt, nightOf}
 use Rattle.rules.specs.Stars.{starRefused}
 use Rattle.rules.specs.Place.{place}
-use Rattle.rules.specs.ListReading.{freshEntry}
+use Rattle.rules.specs.ListReading.{noughts}
 use Rattle.rules.specs.NightList.{worked, marked, listRefused, listedIn, nightList, workedIn, entriesAfterNight}
 use Rattle.laws.specs.SampleNight.{evening, here}
 use Rattle.laws.specs.SamplePlace.{sirius, equinox, siriusPlace, equinoxPlace, sirius-stands, equinox-stands}
@@ -71,10 +71,14 @@ quarter-turns = (refl, refl)
 
 -- ---- "A night list that marks nothing, or gives an invented count, breaks the Lists section"
 
--- a star that is accepted, and one whose right ascension is below nought
+-- an entry that has another mark than 0 and 5
+abbrev entryOf : Star → Entry
+entryOf s = record { star = s; mark = 7; place = noughts }
+
+-- of a star that is accepted, and of one whose right ascension is below nought
 abbrev twoEntries : List Entry
-twoEntries = freshEntry sirius
-    ∷ freshEntry (record { ra = − 1; declination = + 0; «ra_motion» = + 0; «declination_motion» = + 0 })
+twoEntries = entryOf sirius
+    ∷ entryOf (record { ra = − 1; declination = + 0; «ra_motion» = + 0; «declination_motion» = + 0 })
     ∷ []
 
 abbrev markOf : Entry → ℕ
@@ -82,7 +86,7 @@ markOf e = e .mark
 
 pub one-of-two : (nightList evening here twoEntries ≡ Listed.Count 1)
     × (map markOf (entriesAfterNight evening here twoEntries) ≡ 0 ∷ 5 ∷ [])
-unfolding nightList listedIn marked worked listRefused workedIn entriesAfterNight freshEntry nightOf nightAt instants
+unfolding nightList listedIn marked worked listRefused workedIn entriesAfterNight nightOf nightAt instants
     same between within leap months sum upFrom years daysBefore2000 dayCount dayNumber yearRefused monthDays
     dayRefused taiMinusUtc beforeStep lastSecond timeRefused differenceRefused starRefused siteRefused
 one-of-two = (refl, refl)
