@@ -12,9 +12,12 @@ ROOT = pathlib.Path(__file__).resolve().parent.parent
 SPECS = ROOT / "crates/promises/specs"
 WIDTH = 120
 
+# what these crates answer comes from outside, so no contract can say it: docs/PROMISES.md lists their functions
+FROM_OUTSIDE = {"input"}
+
 # a public function: its name, parameters, answer and clauses
 FUNCTION = re.compile(
-    r'^pub (?:extern "C" )?fn (\w+)\((.*?)\)([^()]*?)\n((?:    (?:requires|ensures).*?)?)^\{', re.M | re.S
+    r'^pub (?:extern "C" )?fn (\w+)(?:<[^>]*>)?\((.*?)\)([^()]*?)\n((?:    (?:requires|ensures).*?)?)^\{', re.M | re.S
 )
 
 # the form of a contract: the lemma of Contracts.antt that serves it, and how many arguments are found by the prover
@@ -24,7 +27,7 @@ LEMMAS = {"one": 1, "one-and": 3, "one-both": 4, "one-each": 4, "one-content": 3
 def crates():
     for line in (ROOT / "crates.txt").read_text().splitlines():
         match = re.match(r"(\w+):", line)
-        if match and (ROOT / "crates" / match[1] / "src/lib.rt").exists():
+        if match and match[1] not in FROM_OUTSIDE and (ROOT / "crates" / match[1] / "src/lib.rt").exists():
             yield match[1]
 
 

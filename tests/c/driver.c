@@ -49,7 +49,10 @@ static int32_t narrow(int64_t word) {
     FUNCTION(inner_arguments, 1, struct inner_arguments, given[0])                                                     \
     FUNCTION(inner_nutation, 1, struct inner_nutation, given[0])                                                       \
     FUNCTION(inner_sun, 1, struct inner_angle, given[0])                                                               \
+    FUNCTION(inner_mean_longitude, 1, struct inner_angle, given[0])                                                    \
+    FUNCTION(inner_aberration, 1, struct inner_aberration, given[0])                                                   \
     FUNCTION(inner_sidereal, 1, struct inner_angle, given[0])                                                          \
+    FUNCTION(inner_sidereal_polynomial, 1, struct inner_angle, given[0])                                               \
     FUNCTION(turbelicus_place, 14, struct turbelicus_placed, narrow(given[0]), narrow(given[1]), narrow(given[2]),     \
              narrow(given[3]), narrow(given[4]), narrow(given[5]), narrow(given[6]), narrow(given[7]), given[8],       \
              given[9], given[10], given[11], narrow(given[12]), narrow(given[13]))                                     \

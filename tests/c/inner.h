@@ -57,12 +57,20 @@ struct inner_nutation {
     int64_t refused, longitude, obliquity;
 };
 
+/* bx and by, and the three numbers that are added. */
+struct inner_aberration {
+    int64_t refused, bx, by, x, y, z;
+};
+
 struct inner_precession inner_precession(int64_t tt);
 struct inner_angle inner_obliquity(int64_t tt);
 struct inner_arguments inner_arguments(int64_t tt);
 struct inner_nutation inner_nutation(int64_t tt);
 struct inner_angle inner_sun(int64_t tt);
+struct inner_angle inner_mean_longitude(int64_t tt);
+struct inner_aberration inner_aberration(int64_t tt);
 struct inner_angle inner_sidereal(int64_t ut);
+struct inner_angle inner_sidereal_polynomial(int64_t ut);
 
 struct inner_star {
     int64_t ra, declination;

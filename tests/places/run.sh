@@ -1,6 +1,8 @@
 #!/usr/bin/env bash
-# run.sh: holds the program `places` that `rt check` built, and the second program, to the stored transcript, byte for byte.
-# `expected` was written by the second program: run.sh --write writes it anew.
+# run.sh: holds the program `places` that `rt check` built, and the second program, to the stored transcript, byte for
+# byte; and the program alone to its messages where something outside fails.
+# `expected` was written by the second program: run.sh --write writes it anew. `failures.expected` was written by hand:
+# a line on standard error for each failure.
 set -euo pipefail
 
 here=$(cd "$(dirname "${BASH_SOURCE[0]}")" && pwd -P)
@@ -13,11 +15,11 @@ second() {
     "$here/transcript.sh" "$top/tests/target/release/examples/places"
 }
 
-same() { # same NAME COMMAND [WORD ..]: holds what a command prints to what is stored
-    local name=$1
-    shift
+same() { # same NAME FILE COMMAND [WORD ..]: holds what a command prints to what is stored
+    local name=$1 stored=$here/$2
+    shift 2
     "$@" >"$work/out"
-    diff "$here/expected" "$work/out" || { echo "places: $name: FAILED"; exit 1; }
+    diff "$stored" "$work/out" || { echo "places: $name: FAILED"; exit 1; }
     echo "places: $name: $(grep -c '^== ' "$work/out") cases as expected"
 }
 
@@ -25,8 +27,10 @@ if [ "${1-}" = --write ]; then
     second >"$here/expected"
     exit
 fi
-same 'the program' "$here/transcript.sh" "$top/tests/host.sh" run "$top/target/bin/places"
-same 'the second program' second
+program=("$top/tests/host.sh" run "$top/target/bin/places")
+same 'the program' expected "$here/transcript.sh" "${program[@]}"
+same 'the program, where something fails' failures.expected "$here/failures.sh" "${program[@]}"
+same 'the second program' expected second
 # the run that `rt check` makes is the first case
 "$top/tests/target/release/examples/places" "$top/examples/bright.slt" <"$top/crates/places/stdin" | cmp - "$top/crates/places/stdout"
 cmp "$top/examples/bright.slt" "$top/crates/places/data/bright.slt"

@@ -3,22 +3,28 @@
 -- `YYYY-MM-DD hh:mm:ss.mmm d latitude longitude`, both in µas, each an optional minus and then 1 to 12 digits.
 use Prim.Native.Nat.{ℕ, suc, _+_}
 use mathlib.Core.Bool.{Bool, cond, _&&_}
-use mathlib.Core.List.{List, [], _∷_}
+use mathlib.Core.List.{List, [], _∷_, _++_}
 use lib.ListN.{length, take, drop}
 use lib.Dec.{eqb}
 use Rattle.rules.specs.declared.Moment.{Moment}
 use Rattle.rules.specs.declared.Site.{Site}
 use Rattle.rules.specs.declared.Line.{Line}
+use Rattle.rules.specs.Refusals.{Answer, given, otherForm}
+use Rattle.rules.specs.Answers.{momentNumbers}
 use Rattle.rules.specs.Numerals.{space, ofNumber, signed}
 use Rattle.rules.specs.Lines.{form, lineOf}
 use Rattle.asking.specs.declared.Asked.{Asked}
 
 -- ---- words
 
--- how many bytes come before the first space
-unfoldable pub wordLength : List ℕ → ℕ
-wordLength [] = 0
-wordLength (b ∷ bs) = cond (eqb b space) 0 (suc (wordLength bs))
+-- how many bytes come before the first that is `byte`; all where none is
+unfoldable pub lengthBefore : ℕ → List ℕ → ℕ
+lengthBefore byte [] = 0
+lengthBefore byte (b ∷ bs) = cond (eqb b byte) 0 (suc (lengthBefore byte bs))
+
+-- before the first space
+abbrev pub wordLength : List ℕ → ℕ
+wordLength bs = lengthBefore space bs
 
 -- the bytes before the first space
 unfoldable pub firstWord : List ℕ → List ℕ
@@ -58,3 +64,9 @@ momentEnd line = length form + wordLength (drop (length form) line)
 -- a line without its end
 unfoldable pub askedOf : List ℕ → Asked
 askedOf line = askedIn (lineOf (take (momentEnd line) line)) (drop (momentEnd line + 1) line)
+
+-- ---- number and values: the eight numbers of the moment, latitude, longitude
+
+unfoldable pub askedAnswer : Asked → Answer
+askedAnswer (Asked.For m site) = given (momentNumbers m ++ site .latitude ∷ site .longitude ∷ [])
+askedAnswer Asked.Other = otherForm

@@ -3,3 +3,4 @@ pub mod Asking
 -- laws
 pub mod Words
 pub mod LongLines
+pub mod Answers

@@ -1,4 +1,4 @@
--- Words of a line: found byte by byte, and that a line with no site after its first words is of another form.
+-- Words of a line: found byte by byte; and a line with no site after its first words is of another form.
 use mathlib.Core.Path.{_≡_, refl, ap, _∙_}
 use mathlib.Core.Bool.{Bool, true, false, cond, _&&_}
 use mathlib.Core.List.{List, [], _∷_}
@@ -15,44 +15,50 @@ use Rattle.rules.specs.Numerals.{space, negative, unsigned, ofDigits, ofNumber}
 use Rattle.rules.specs.Lines.{lineOf}
 use Rattle.laws.specs.Lines.{to-end}
 use Rattle.asking.specs.declared.Asked.{Asked}
-use Rattle.asking.specs.Asking.{wordLength, firstWord, afterWord, ofSite, withSite, askedIn}
+use Rattle.asking.specs.Asking.{lengthBefore, wordLength, firstWord, afterWord, ofSite, withSite, askedIn}
 use Rattle.asking.specs.Asking.{momentEnd, askedOf}
 
--- ---- a word, byte by byte
+-- ---- bytes before one, byte by byte
 
-pub word-step : (bs : List ℕ) (i : ℕ) → i < length bs
-    → wordLength (drop i bs) ≡ cond (eqb (getD bs i 0) space) 0 (suc (wordLength (drop (i + 1) bs)))
-unfolding wordLength
-word-step bs i h = rw (add-one i, drop-cons bs i 0 h)
+pub before-step : (byte : ℕ) (bs : List ℕ) (i : ℕ) → i < length bs
+    → lengthBefore byte (drop i bs) ≡ cond (eqb (getD bs i 0) byte) 0 (suc (lengthBefore byte (drop (i + 1) bs)))
+unfolding lengthBefore
+before-step byte bs i h = rw (add-one i, drop-cons bs i 0 h)
 
--- a space found, or another byte
-pub word-found : (bs : List ℕ) (i m : ℕ) → i < length bs → getD bs i 0 ≡ space → i + wordLength (drop i bs) ≡ m → i ≡ m
-word-found bs i m h e w =
-    let q : wordLength (drop i bs) ≡ 0 = word-step bs i h ∙ rw (eq-eqb (getD bs i 0) space e) in
+-- the byte is found, or it is another
+pub before-found : (byte : ℕ) (bs : List ℕ) (i m : ℕ) → i < length bs → getD bs i 0 ≡ byte
+    → i + lengthBefore byte (drop i bs) ≡ m
+    → i ≡ m
+before-found byte bs i m h e w =
+    let q : lengthBefore byte (drop i bs) ≡ 0 = before-step byte bs i h ∙ rw (eq-eqb (getD bs i 0) byte e) in
     omega arith
 
-pub word-on : (bs : List ℕ) (i m : ℕ) → i < length bs → (getD bs i 0 ≡ space → ⊥) → i + wordLength (drop i bs) ≡ m
-    → (i + 1) + wordLength (drop (i + 1) bs) ≡ m
-word-on bs i m h e w =
-    let q : wordLength (drop i bs) ≡ suc (wordLength (drop (i + 1) bs)) =
-    word-step bs i h ∙ rw (ne-eqb (getD bs i 0) space e) in
+pub before-on : (byte : ℕ) (bs : List ℕ) (i m : ℕ) → i < length bs → (getD bs i 0 ≡ byte → ⊥)
+    → i + lengthBefore byte (drop i bs) ≡ m
+    → (i + 1) + lengthBefore byte (drop (i + 1) bs) ≡ m
+before-on byte bs i m h e w =
+    let q : lengthBefore byte (drop i bs) ≡ suc (lengthBefore byte (drop (i + 1) bs)) =
+    before-step byte bs i h ∙ rw (ne-eqb (getD bs i 0) byte e) in
     omega arith
 
-pub word-end : (bs : List ℕ) (i : ℕ) → length bs ≡ i → wordLength (drop i bs) ≡ 0
-unfolding wordLength
-word-end [] zero h = refl
-word-end [] (suc i) h = refl
-word-end (b ∷ bs) zero h = absurd (omega arith)
-word-end (b ∷ bs) (suc i) h = word-end bs i (omega arith)
+pub before-end : (byte : ℕ) (bs : List ℕ) (i : ℕ) → length bs ≡ i → lengthBefore byte (drop i bs) ≡ 0
+unfolding lengthBefore
+before-end byte [] zero h = refl
+before-end byte [] (suc i) h = refl
+before-end byte (b ∷ bs) zero h = absurd (omega arith)
+before-end byte (b ∷ bs) (suc i) h = before-end byte bs i (omega arith)
 
-pub word-le : (bs : List ℕ) → wordLength bs ≤ length bs
-unfolding wordLength
-word-le [] = omega arith
-word-le (b ∷ bs) = go (eqb b space) (word-le bs)
+pub before-le : (byte : ℕ) (bs : List ℕ) → lengthBefore byte bs ≤ length bs
+unfolding lengthBefore
+before-le byte [] = omega arith
+before-le byte (b ∷ bs) = go (eqb b byte) (before-le byte bs)
   where
-    go : (t : Bool) → wordLength bs ≤ length bs → cond t 0 (suc (wordLength bs)) ≤ suc (length bs)
+    go : (t : Bool) → lengthBefore byte bs ≤ length bs → cond t 0 (suc (lengthBefore byte bs)) ≤ suc (length bs)
     go true h = omega arith
     go false h = omega arith
+
+pub word-le : (bs : List ℕ) → wordLength bs ≤ length bs
+word-le bs = before-le space bs
 
 -- ---- nothing where a number should be
 
@@ -77,7 +83,7 @@ site-short bs h =
     (ap (ofNumber 12) (nothing-left (drop (w + 1) bs) (omega (arith, length-drop (w + 1) bs))) ∙ none-is-no-number 12)
 
 pub with-none : (m : Moment) → withSite m [] ≡ Asked.Other
-unfolding withSite wordLength
+unfolding withSite lengthBefore
 with-none m = rw (site-short [] (omega arith))
 
 -- no site

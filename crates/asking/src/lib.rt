@@ -15,13 +15,13 @@ pub enum Asked {
     Other,
 }
 
-// How many bytes come before the first space.
-pub fn word_length(s: &[u8]) -> usize
-    ensures { λ r. ⌜ r ≡ rule.wordLength (now (s .entry)) ⌝ }
+// How many bytes come before the first that is this one; all where none is.
+pub fn length_before(byte: u8, s: &[u8]) -> usize
+    ensures { λ r. ⌜ r ≡ rule.lengthBefore byte (now (s .entry)) ⌝ }
 {
     let mut i: usize = 0;
     while i < s.len() {
-        if s[i] == 32 {
+        if s[i] == byte {
             return i;
         }
         i += 1;
@@ -33,7 +33,7 @@ pub fn word_length(s: &[u8]) -> usize
 pub fn with_site(moment: Moment, s: &[u8]) -> Asked
     ensures { λ r. ⌜ r ≡ rule.withSite moment (now (s .entry)) ⌝ }
 {
-    let n = word_length(s);
+    let n = length_before(b' ', s);
     if s.len() <= n {
         return Asked::Other;
     }
@@ -60,7 +60,7 @@ pub fn asked_of(line: &[u8]) -> Asked
     if line.len() < 24 {
         return Asked::Other;
     }
-    let end = 24 + word_length(&line[24..]);
+    let end = 24 + length_before(b' ', &line[24..]);
     if line.len() <= end {
         return Asked::Other;
     }

@@ -1,21 +1,18 @@
 -- What the walk of `write_list` needs: records put one by one are the file's, and what the plan says of lengths.
-use mathlib.Core.Path.{_≡_, sym, _∙_, ap, subst}
-use mathlib.Core.Bool.{not, cond}
-use mathlib.Core.List.{List, [], _∷_, _++_, map, append-assoc, map-append}
+use mathlib.Core.Path.{_≡_, refl, sym, _∙_, ap, subst}
+use mathlib.Core.Bool.{Bool, true, false, _||_}
+use mathlib.Core.List.{List, [], _∷_, _++_, append-assoc}
 use Prim.Native.Nat.{ℕ, _+_, _*_, _<_, _≤_}
 use native.Mathlib.Omega.{arith}
 use native.Mathlib.Nat.{lt-irrefl}
-use lib.Dec.{eqb}
 use lib.ListN.{length, getD, take, drop, length-append, take-append-drop}
 use lib.Seq.{length-take-le, take-length, getD-append-seam}
 use Rattle.rules.specs.declared.Entry.{Entry}
 use Rattle.rules.specs.declared.Listed.{Listed}
-use Rattle.rules.specs.StarList.{fileLength, recordOf}
+use Rattle.rules.specs.StarList.{fileLength, recordOf, anyRefused}
 use Rattle.rules.specs.ListReading.{leaving}
-use Rattle.rules.specs.ListWriting.{starsOf, roomRefused, writtenOf}
-use Rattle.rules.specs.ListWriting.{listWritten, roomAfterWrite}
+use Rattle.rules.specs.ListWriting.{starsOf, listWritten, roomAfterWrite}
 use Rattle.rules.specs.Stars.{starRefused}
-use Rattle.laws.specs.Records.{acceptedIn, accepted-le, accepted-snoc, any-counted}
 use Rattle.laws.specs.FileLength.{records, record-length, records-length, headOf, starsOf-length}
 use Rattle.laws.specs.ListWriting.{write-accepted}
 use Rattle.star_file.specs.declared.Plan.{Plan}
@@ -25,22 +22,29 @@ use Rattle.star_bytes.specs.Puts.{put, put-length, put-none, put-put}
 use Rattle.star_records.specs.Records.{file-put}
 use Rattle.star_list.proofs.Lists.{snoc-length}
 
--- how many of the entries have a star that is accepted
-abbrev pub acceptedAll : List Entry → ℕ
-acceptedAll entries = acceptedIn (starsOf entries)
+-- one of the entries has a star that is refused
+abbrev pub refusedAll : List Entry → Bool
+refusedAll entries = anyRefused (starsOf entries)
 
-abbrev pub acceptedOne : Entry → ℕ
-acceptedOne e = cond (starRefused (e .star)) 0 1
+or-assoc : (a b c : Bool) → (a || b) || c ≡ a || (b || c)
+or-assoc true b c = refl
+or-assoc false b c = refl
 
-pub accepted-most : (entries : List Entry) → acceptedAll entries ≤ length entries
-accepted-most entries = omega (arith, accepted-le (starsOf entries), starsOf-length entries)
+or-none : (a : Bool) → false || a ≡ a || false
+or-none true = refl
+or-none false = refl
 
-pub accepted-more : (entries : List Entry) (e : Entry)
-    → acceptedAll entries + acceptedOne e ≡ acceptedAll (entries ++ (e ∷ []))
-unfolding starsOf
-accepted-more entries e =
-    accepted-snoc (map (λ (x : Entry). x .star) entries) (e .star)
-    ∙ ap acceptedIn (sym (map-append (λ (x : Entry). x .star) entries (e ∷ [])))
+pub refused-more : (entries : List Entry) (e : Entry)
+    → refusedAll entries || starRefused (e .star) ≡ refusedAll (entries ++ (e ∷ []))
+unfolding anyRefused starsOf
+refused-more [] e = or-none (starRefused (e .star))
+refused-more (p ∷ ps) e =
+    or-assoc (starRefused (p .star)) (refusedAll ps) (starRefused (e .star))
+    ∙ ap (λ t. starRefused (p .star) || t) (refused-more ps e)
+
+pub refused-none : false ≡ refusedAll []
+unfolding anyRefused starsOf
+refused-none = refl
 
 -- records put one after the other, from record i on
 abbrev pub putAll : ℕ → List Entry → List ℕ → List ℕ
@@ -119,14 +123,12 @@ by-answer xs room (Listed.Refused r) e = record {
 }
 
 plan-answer : (xs : List Entry) (room : List ℕ)
-    → writePlan (acceptedAll xs) (length xs) (length room) .answer ≡ listWritten xs room
+    → writePlan (refusedAll xs) (length xs) (length room) .answer ≡ listWritten xs room
 unfolding writePlan planOf listWritten
-plan-answer xs room =
-    ap (λ t. writtenOf t (roomRefused (length xs) (length room)) (length xs))
-    (ap (λ n. not (eqb (acceptedAll xs) n)) (sym (starsOf-length xs)) ∙ any-counted (starsOf xs))
+plan-answer xs room = refl
 
 plan-done : (xs : List Entry) (room : List ℕ) (plan : Plan)
-    → plan ≡ writePlan (acceptedAll xs) (length xs) (length room)
+    → plan ≡ writePlan (refusedAll xs) (length xs) (length room)
     → Done xs room (plan .answer) (plan .todo)
 unfolding writePlan planOf
 plan-done xs room plan e =
@@ -134,7 +136,7 @@ plan-done xs room plan e =
     (by-answer xs room _ (sym (plan-answer xs room)))
 
 module _ (xs : List Entry) (room : List ℕ) (plan : Plan)
-    (planned : plan ≡ writePlan (acceptedAll xs) (length xs) (length room)) where
+    (planned : plan ≡ writePlan (refusedAll xs) (length xs) (length room)) where
   all : Done xs room (plan .answer) (plan .todo)
   all = plan-done xs room plan planned
 

@@ -4,24 +4,24 @@ use rules::Entry;
 use rules::Listed;
 use star_records::put_entry;
 use writing_plan::finish;
-use writing_plan::tally;
+use writing_plan::refused_up_to;
 use writing_plan::write_plan;
 ghost use mathlib.Core.Path.{_≡_};
+ghost use Rattle.rules.specs.StarList.{anyRefused};
 ghost use Rattle.rules.specs.ListWriting.{starsOf};
 ghost use Rattle.rules.specs.ListWriting.{listWritten, roomAfterWrite};
-ghost use Rattle.laws.specs.Records.{acceptedIn};
 
-// How many of the entries have a star that is accepted.
-fn accepted_entries(entries: &[Entry]) -> usize
-    ensures { λ r. ⌜ r ≡ acceptedIn (starsOf (now (entries .entry))) ⌝ }
+// Refusal 5: one of the entries has a star that is refused.
+fn any_refused(entries: &[Entry]) -> bool
+    ensures { λ r. ⌜ r ≡ anyRefused (starsOf (now (entries .entry))) ⌝ }
 {
-    let mut n: usize = 0;
+    let mut refused = false;
     let mut i: usize = 0;
     while i < entries.len() {
-        n = tally(n, entries[i]);
+        refused = refused_up_to(refused, entries[i]);
         i += 1;
     }
-    n
+    refused
 }
 
 // The stars of entries written as a list file.
@@ -34,8 +34,8 @@ pub fn write_list(entries: &[Entry], room: &mut [u8]) -> Listed
     ensures { λ r. ⌜ (r ≡ listWritten (now (entries .entry)) (now (room .entry)))
         × (now (room .exit) ≡ roomAfterWrite (now (entries .entry)) (now (room .entry))) ⌝ }
 {
-    let accepted = accepted_entries(entries);
-    let plan = write_plan(accepted, entries.len(), room.len());
+    let refused = any_refused(entries);
+    let plan = write_plan(refused, entries.len(), room.len());
     let todo = plan.todo;
     let mut i: usize = 0;
     while i < todo {

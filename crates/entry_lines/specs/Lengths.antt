@@ -62,12 +62,9 @@ pub entry-le : (people : Bool) (index : ℕ) (e : Entry) → index ≤ 64 → e 
     → length (entryLine people index e) ≤ 125
 unfolding entryLine
 entry-le people index e h k l =
-    let angles = cond people (peopleAngles (e .place)) (plainAngles (e .place)) in
-    omega (
+    simp length-append (omega (
       arith,
-      length-append (decimal (pos index) ++ spaced (decimal (pos (e .mark)))) angles,
-      length-append (decimal (pos index)) (spaced (decimal (pos (e .mark)))),
       number-le (pos index) (omega arith),
       number-le (pos (e .mark)) (omega arith),
       chosen-le people (e .place) l,
-    )
+    ))

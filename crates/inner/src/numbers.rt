@@ -70,9 +70,10 @@ pub extern "C" fn inner_rnd_product_quotient(a: i64, b: i64, d: i64) -> Tried
     if !product_fits(a, b, d) {
         return NONE;
     }
+    let quotient = rounding::rnd_product_quotient(a, b, d);
     Tried {
         met: 1,
-        value: rounding::rnd_product_quotient(a, b, d),
+        value: quotient,
     }
 }
 

@@ -1,2 +1,3 @@
--- What the exports are given.
+-- What the exports are given, and what that of aberration answers.
 pub mod Given
+pub mod Aberration

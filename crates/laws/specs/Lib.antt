@@ -77,6 +77,7 @@ pub mod StarList
 pub mod ListWriting
 pub mod StarWidths
 pub mod RoundTrip
+pub mod NumbersRoundTrip
 -- lines of `times`
 pub mod Lines
 pub mod Decimal

@@ -1,13 +1,13 @@
 -- What a writer of a list file answers, exactly when, in the order 5, 11; of entries, and of a row of numbers.
 use mathlib.Core.Path.{_≡_, refl, _∙_, ap}
-use mathlib.Core.Bool.{Bool, true, false}
+use mathlib.Core.Bool.{Bool, true, false, not}
 use mathlib.Core.List.{List}
 use Prim.Native.Nat.{ℕ, _%_, _<_, _≤_}
 use native.Mathlib.Omega.{arith}
 use lib.ListN.{length}
-use lib.Dec.{ltb}
+use lib.Dec.{eqb, ltb}
 use lib.IntN.{ℤ}
-use borrow.Author.Tests.{lt-ltb, le-ltb, ltb-false, eq-eqb, ne-eqb}
+use borrow.Author.Tests.{lt-ltb, le-ltb, ltb-false, eqb-true, eq-eqb, ne-eqb, not-false}
 use Rattle.rules.specs.declared.Entry.{Entry}
 use Rattle.rules.specs.declared.Refusal.{Refusal}
 use Rattle.rules.specs.declared.Listed.{Listed}
@@ -82,6 +82,30 @@ pub numbers-counted : (numbers : List ℤ) (room : List ℕ) → anyRefused (num
     → numbersWritten numbers room ≡ Listed.Count (fileLength (countFrom numbers))
 unfolding numbersWritten
 numbers-counted numbers room a b = writes-case (anyRefused (numberStars numbers)) _ (countFrom numbers) a b
+
+-- what is not refused of a row
+pub record RowAccepted (numbers : List ℤ) (room : List ℕ) (size : ℕ) : Type 0 where
+  pub not-5 : anyRefused (numberStars numbers) ≡ false
+  pub even : length numbers % 4 ≡ 0
+  pub few : countFrom numbers ≤ 64
+  pub fits : fileLength (countFrom numbers) ≤ length room
+  pub size-is : size ≡ fileLength (countFrom numbers)
+
+pub row-accepted : (numbers : List ℤ) (room : List ℕ) (size : ℕ) → numbersWritten numbers room ≡ Listed.Count size
+    → RowAccepted numbers room size
+unfolding numbersWritten rowRefused roomRefused
+row-accepted numbers room size e =
+    let n = countFrom numbers in
+    let k = written-case (anyRefused (numberStars numbers)) _ n size e in
+    let l = or-false (not (eqb (length numbers % 4) 0)) _ (k .1 .0) in
+    let m = or-false (ltb 64 n) (ltb (length room) (fileLength n)) (l .1) in
+    record {
+      not-5 = k .0;
+      even = eqb-true (length numbers % 4) 0 (not-false _ (l .0));
+      few = ltb-false 64 n (m .0);
+      fits = ltb-false (length room) (fileLength n) (m .1);
+      size-is = k .1 .1;
+    }
 
 -- the last star has not all its numbers
 pub row-uneven : (numbers : List ℤ) (room : ℕ) → (length numbers % 4 ≡ 0 → ⊥) → rowRefused numbers room ≡ true

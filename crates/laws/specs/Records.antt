@@ -1,16 +1,14 @@
 -- Stars that lie one after the other, in the records of a file or in a row of numbers: star i, one star more, and
 -- whether one of them is refused.
 use mathlib.Core.Path.{_≡_, refl, sym, _∙_, ap}
-use mathlib.Core.Bool.{Bool, true, false, not, cond, _||_, false≢true}
+use mathlib.Core.Bool.{Bool, true, false, _||_, false≢true}
 use mathlib.Core.List.{List, [], _∷_, _++_, map}
-use Prim.Native.Nat.{ℕ, zero, suc, _+_, _*_, _<_, _≤_}
+use Prim.Native.Nat.{ℕ, zero, suc, _+_, _*_, _<_}
 use native.Mathlib.Omega.{arith}
 use native.Mathlib.Nat.{lt-irrefl}
 use lib.ListN.{length, getD, drop}
 use lib.Seq.{drop-drop}
-use lib.Dec.{eqb}
 use lib.IntN.{ℤ}
-use borrow.Author.Tests.{eq-eqb, ne-eqb, eqb-true, eqb-false}
 use Rattle.rules.specs.declared.Star.{Star}
 use Rattle.rules.specs.Stars.{starRefused}
 use Rattle.rules.specs.StarList.{starIn, starsIn, anyRefused}
@@ -91,42 +89,3 @@ any-snoc (t ∷ ss) s a b =
     let k = or-false (starRefused t) (anyRefused ss) a in
     let first = k .0 in
     rw first (any-snoc ss s (k .1) b)
-
--- ---- counted
-
--- how many of them are accepted
-unfoldable pub acceptedIn : List Star → ℕ
-acceptedIn [] = 0
-acceptedIn (s ∷ ss) = cond (starRefused s) 0 1 + acceptedIn ss
-
-one-le : (t : Bool) → cond t 0 1 ≤ 1
-one-le true = omega arith
-one-le false = omega arith
-
-pub accepted-le : (ss : List Star) → acceptedIn ss ≤ length ss
-unfolding acceptedIn
-accepted-le [] = omega arith
-accepted-le (s ∷ ss) = omega (arith, one-le (starRefused s), accepted-le ss)
-
-pub accepted-snoc : (ss : List Star) (s : Star) → acceptedIn ss + cond (starRefused s) 0 1 ≡ acceptedIn (ss ++ (s ∷ []))
-unfolding acceptedIn
-accepted-snoc [] s = omega arith
-accepted-snoc (t ∷ ss) s = omega (arith, accepted-snoc ss s)
-
--- one is refused where not all are accepted
-pub any-counted : (ss : List Star) → not (eqb (acceptedIn ss) (length ss)) ≡ anyRefused ss
-unfolding acceptedIn anyRefused
-any-counted [] = refl
-any-counted (s ∷ ss) = by (starRefused s) (eqb (acceptedIn ss) (length ss)) refl
-    ∙ ap (λ t. starRefused s || t) (any-counted ss)
-  where
-    by : (t e : Bool) → eqb (acceptedIn ss) (length ss) ≡ e
-        → not (eqb (cond t 0 1 + acceptedIn ss) (suc (length ss))) ≡ t || not (eqb (acceptedIn ss) (length ss))
-    by true e k = ap not (ne-eqb (0 + acceptedIn ss) (suc (length ss)) (λ h. omega (arith, h, accepted-le ss)))
-    by false true k =
-        let same = eqb-true (acceptedIn ss) (length ss) k in
-        ap not (eq-eqb (1 + acceptedIn ss) (suc (length ss)) (omega (arith, same))) ∙ ap not (sym k)
-    by false false k =
-        ap not (ne-eqb (1 + acceptedIn ss) (suc (length ss))
-        (λ h. eqb-false (acceptedIn ss) (length ss) k (omega (arith, h))))
-        ∙ ap not (sym k)

@@ -1,16 +1,19 @@
 -- The paper's number and values of an answer are one-to-one: two answers that say the same on paper are the same
 -- answer. So a contract that fixes what is said on paper leaves one answer of the enum.
-use mathlib.Core.Path.{_≡_, sym, ap}
-use mathlib.Core.List.{List}
-use Prim.Native.Nat.{ℕ, _+_}
+use mathlib.Core.Path.{_≡_, refl, sym, ap}
+use mathlib.Core.List.{List, []}
+use Prim.Native.Nat.{ℕ, _+_, _<_}
 use native.Mathlib.Omega.{arith}
-use lib.ListN.{getD}
+use lib.Dec.{lit<}
+use lib.ListN.{length, getD}
 use lib.IntN.{ℤ, pos, natAbs}
 use Rattle.rules.specs.declared.Pair.{Pair}
+use Rattle.rules.specs.declared.Moment.{Moment}
 use Rattle.rules.specs.declared.Refusal.{Refusal}
 use Rattle.rules.specs.declared.Numbered.{Numbered}
 use Rattle.rules.specs.declared.Dated.{Dated}
 use Rattle.rules.specs.declared.Instants.{Instants}
+use Rattle.rules.specs.declared.Line.{Line}
 use Rattle.rules.specs.declared.Angle.{Angle}
 use Rattle.rules.specs.declared.Precessed.{Precessed}
 use Rattle.rules.specs.declared.Argued.{Argued}
@@ -20,27 +23,27 @@ use Rattle.rules.specs.declared.Prepared.{Prepared}
 use Rattle.rules.specs.declared.Placed.{Placed}
 use Rattle.rules.specs.declared.Listed.{Listed}
 use Rattle.rules.specs.declared.Starred.{Starred}
-use Rattle.rules.specs.Refusals.{Answer, given, refused}
-use Rattle.rules.specs.Answers.{numberedAnswer, datedAnswer, instantsAnswer}
+use Rattle.rules.specs.Refusals.{Answer, given, refused, otherForm}
+use Rattle.rules.specs.Answers.{numberedAnswer, datedAnswer, instantsAnswer, momentNumbers, lineAnswer}
 use Rattle.rules.specs.Answers.{angleAnswer, precessedAnswer, arguedAnswer, nutatedAnswer, turnedAnswer, placedAnswer}
 use Rattle.rules.specs.Answers.{listedAnswer, starredAnswer, parts, preparedAnswer}
 use Rattle.laws.specs.RefusalNumbers.{number-pos, number-one}
 
 -- what is refused has a number that no answer has
-never : {A : Type 0} (r : Refusal) (n : ℕ) (zs : List ℤ) → given zs ≡ refused r n → A
+pub never : {A : Type 0} (r : Refusal) (n : ℕ) (zs : List ℤ) → given zs ≡ refused r n → A
 unfolding given refused
 never r n zs e = absurd (omega (arith, ap (λ (a : Answer). a .number) e, number-pos r))
 
-same-refusal : (r s : Refusal) (n : ℕ) → refused r n ≡ refused s n → r ≡ s
+pub same-refusal : (r s : Refusal) (n : ℕ) → refused r n ≡ refused s n → r ≡ s
 unfolding refused
 same-refusal r s n e = number-one r s (ap (λ (a : Answer). a .number) e)
 
-same-values : (ys zs : List ℤ) → given ys ≡ given zs → ys ≡ zs
+pub same-values : (ys zs : List ℤ) → given ys ≡ given zs → ys ≡ zs
 unfolding given
 same-values ys zs e = ap (λ (a : Answer). a .values) e
 
 -- a value by its place
-abbrev at : List ℤ → ℕ → ℤ
+abbrev pub at : List ℤ → ℕ → ℤ
 at zs i = getD zs i (pos 0)
 
 pub numbered-one : (a b : Numbered) → numberedAnswer a ≡ numberedAnswer b → a ≡ b
@@ -66,6 +69,25 @@ instants-one (Instants.At ut tt) (Instants.At ut′ tt′) e =
 instants-one (Instants.At ut tt) (Instants.Refused s) e = never s 2 _ e
 instants-one (Instants.Refused r) (Instants.At ut tt) e = never r 2 _ (sym e)
 instants-one (Instants.Refused r) (Instants.Refused s) e = ap Instants.Refused (same-refusal r s 2 e)
+
+-- a line of another form has no values
+pub other-never : {A : Type 0} (zs : List ℤ) → 0 < length zs → given zs ≡ otherForm → A
+unfolding otherForm
+other-never zs h e = absurd (omega (arith, ap length (same-values zs [] e)))
+
+abbrev pub momentAt : List ℤ → Moment
+momentAt zs = record {
+  date = record { year = at zs 0; month = at zs 1; day = at zs 2 };
+  time = record { hour = at zs 3; minute = at zs 4; second = at zs 5; ms = at zs 6 };
+  difference = at zs 7;
+}
+
+pub line-one : (a b : Line) → lineAnswer a ≡ lineAnswer b → a ≡ b
+unfolding lineAnswer momentNumbers
+line-one (Line.Of m) (Line.Of k) e = ap (λ zs. Line.Of (momentAt zs)) (same-values _ _ e)
+line-one (Line.Of m) Line.Other e = other-never _ (lit< tt) e
+line-one Line.Other (Line.Of m) e = other-never _ (lit< tt) (sym e)
+line-one Line.Other Line.Other e = refl
 
 pub angle-one : (a b : Angle) → angleAnswer a ≡ angleAnswer b → a ≡ b
 unfolding angleAnswer

@@ -1,14 +1,12 @@
 // The length of a direction: whether it is accepted, and bringing to length.
 
 use rules::Direction;
-use rules::Refusal;
-use rules::Turned;
 use units::UNIT;
 ghost use mathlib.Core.Path.{_≡_};
 ghost use mathlib.Core.Bool.{not};
 ghost use Prim.Native.Nat.{_<_, _^_};
 ghost use lib.IntN.{pos, natAbs};
-ghost use Rattle.rules.specs.Length.{squares, partTo, root, toLength, broughtToLength};
+ghost use Rattle.rules.specs.Length.{squares, partTo, root, toLength};
 ghost use Rattle.rules.specs.Turning.{directionRefused};
 ghost use Rattle.length.specs.Given.{PartFits, HasLength, NotNought};
 
@@ -41,11 +39,10 @@ pub fn parts_to(v: Direction, l: i64) -> Direction
     requires { ⌜ HasLength v l ⌝ }
     ensures { λ r. ⌜ r ≡ toLength v ⌝ }
 {
-    Direction {
-        x: part_to(v.x, l),
-        y: part_to(v.y, l),
-        z: part_to(v.z, l),
-    }
+    let x = part_to(v.x, l);
+    let y = part_to(v.y, l);
+    let z = part_to(v.z, l);
+    Direction { x, y, z }
 }
 
 // Rnd(part * 2^30 / L).
@@ -75,22 +72,6 @@ pub fn accepted(v: Direction) -> bool
         return false;
     }
     whole::is_between(LEAST, MOST, squares_sum(v))
-}
-
-// v brought to the length 2^30.
-//
-// Given: v, whose squares' sum is below 2^63.
-// Returned: Rnd(part * 2^30 / L) of each, L the whole root of the sum; refused 13 if L is nought.
-// Rule: 01, "The three are then brought to length".
-pub fn to_length(v: Direction) -> Turned
-    requires { ⌜ squares v < 2 ^ 63 ⌝ }
-    ensures { λ r. ⌜ r ≡ broughtToLength v ⌝ }
-{
-    let l = length_of(v);
-    if l == 0 {
-        return Turned::Refused(Refusal::Length);
-    }
-    Turned::To(parts_to(v, l))
 }
 
 // v brought to the length 2^30, where it is known not to be nought.

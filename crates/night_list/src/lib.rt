@@ -27,7 +27,7 @@ pub fn night_list(moment: Moment, site: Site, entries: &mut [Entry]) -> Listed
 {
     let plan = plan_of(moment, site, entries.len());
     let todo = plan.todo;
-    let mut n: usize = 0;
+    let mut n: i64 = 0;
     let mut i: usize = 0;
     while i < todo {
         let entry = worked(plan, entries[i]);

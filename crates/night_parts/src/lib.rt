@@ -45,12 +45,28 @@ pub fn aberration(s: Pair, e: Pair) -> Direction
     requires { ⌜ Sized e ⌝ }
     ensures { λ r. ⌜ r ≡ rule.aberration s e ⌝ }
 {
-    let by = -scaled(ABERRATION, s.cosine);
+    let by = aberration_y(s);
     Direction {
-        x: scaled(ABERRATION, s.sine),
+        x: aberration_x(s),
         y: scaled(by, e.cosine),
         z: scaled(by, e.sine),
     }
+}
+
+// 4. bx, of the pair of the Sun's longitude.
+pub fn aberration_x(s: Pair) -> i64
+    requires { ⌜ Sized s ⌝ }
+    ensures { λ r. ⌜ r ≡ rule.aberrationX s ⌝ }
+{
+    scaled(ABERRATION, s.sine)
+}
+
+// 4. by, the same, before ε.
+pub fn aberration_y(s: Pair) -> i64
+    requires { ⌜ Sized s ⌝ }
+    ensures { λ r. ⌜ r ≡ rule.aberrationY s ⌝ }
+{
+    -scaled(ABERRATION, s.cosine)
 }
 
 // 6. The pair of minus the local sidereal angle: Δψ, the cosine of ε, the site's longitude.

@@ -11,7 +11,9 @@ use units::MOST;
 ghost use mathlib.Core.Path.{_≡_};
 ghost use mathlib.Core.Bool.{cond};
 ghost use lib.Dec.{eqb};
-ghost use Prim.Native.Nat.{_+_, _<_, _^_};
+ghost use lib.IntN.{pos, natAbs, _+ℤ_};
+ghost use lib.Signed.{_≤ℤ_};
+ghost use Prim.Native.Nat.{_<_, _^_};
 ghost use Rattle.rules.specs.Night.{nightOf};
 ghost use Rattle.night_plan.specs.Plans.{todoOf, planOf, workedBy, answerOf, PreparedFits};
 
@@ -56,18 +58,20 @@ pub fn worked(plan: Plan, entry: Entry) -> Entry
 }
 
 // One more where the entry is marked 0.
-pub fn tally(n: usize, entry: Entry) -> usize
-    requires { ⌜ n < 2 ^ 63 ⌝ }
-    ensures { λ r. ⌜ r ≡ n + cond (eqb (entry .mark) 0) 1 0 ⌝ }
+pub fn tally(n: i64, entry: Entry) -> i64
+    requires { ⌜ natAbs n < 2 ^ 62 ⌝ }
+    ensures { λ r. ⌜ r ≡ n +ℤ pos (cond (eqb (entry .mark) 0) 1 0) ⌝ }
 {
     let mark = entry.mark;
     if mark == 0 { n + 1 } else { n }
 }
 
 // What a list answers: its refusal, or how many entries are marked 0.
-pub fn answer(plan: Plan, n: usize) -> Listed
-    ensures { λ r. ⌜ r ≡ answerOf plan n ⌝ }
+pub fn answer(plan: Plan, n: i64) -> Listed
+    requires { ⌜ pos 0 ≤ℤ n ⌝ }
+    ensures { λ r. ⌜ r ≡ answerOf plan (natAbs n) ⌝ }
 {
+    let counted = n as usize;
     let night = plan.night;
     match night {
         Prepared::Refused(r) => Listed::Refused(r),
@@ -75,7 +79,7 @@ pub fn answer(plan: Plan, n: usize) -> Listed
             if MOST < plan.count {
                 Listed::Refused(Refusal::Room)
             } else {
-                Listed::Count(n)
+                Listed::Count(counted)
             }
         }
     }

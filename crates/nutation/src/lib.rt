@@ -68,9 +68,11 @@ fn products(t: Tt, a: Arguments, m: Term) -> Nutation
     ensures { λ r. ⌜ r ≡ productsOf t m ⌝ }
 {
     let p = pair(term_angle(a, m));
+    let sines = linear(t.0, m.longitude, m.longitude_change) * p.sine;
+    let cosines = linear(t.0, m.obliquity, m.obliquity_change) * p.cosine;
     Nutation {
-        longitude: linear(t.0, m.longitude, m.longitude_change) * p.sine,
-        obliquity: linear(t.0, m.obliquity, m.obliquity_change) * p.cosine,
+        longitude: sines,
+        obliquity: cosines,
     }
 }
 

@@ -1,14 +1,15 @@
--- Our own program `places`, not document 01: what it answers. Definitions only.
+-- Our own program `places`, not document 01: what a file and a line come to, and an entry's line. Definitions only.
 -- The file is checked first, by 9, 10, 5; then the form of the line, by 0; then date and site, by 1 to 4, 6.
 use Prim.Native.Nat.{ℕ}
 use mathlib.Core.Bool.{Bool}
-use mathlib.Core.List.{List}
+use mathlib.Core.List.{List, _∷_}
 use lib.IntN.{pos}
 use Rattle.rules.specs.declared.Night.{Night}
 use Rattle.rules.specs.declared.Prepared.{Prepared}
 use Rattle.rules.specs.declared.Listed.{Listed}
 use Rattle.rules.specs.declared.Starred.{Starred}
-use Rattle.rules.specs.Refusals.{number}
+use Rattle.rules.specs.Refusals.{number, Answer, given, refused, otherForm}
+use Rattle.rules.specs.Answers.{preparedAnswer}
 use Rattle.rules.specs.Times.{refusedLine}
 use Rattle.rules.specs.Night.{nightOf}
 use Rattle.rules.specs.ListReading.{freshEntry, listCount, listStar}
@@ -22,21 +23,27 @@ use Rattle.entry_lines.specs.EntryLine.{entryLine}
 
 unfoldable pub begunIn : ℕ → Prepared → Begun
 begunIn count (Prepared.For n) = Begun.For count n
-begunIn count (Prepared.Refused r) = Begun.Refused (pos (number r))
+begunIn count (Prepared.Refused r) = Begun.Refused r
 
 unfoldable pub begunFor : ℕ → Asked → Begun
 begunFor count (Asked.For m site) = begunIn count (nightOf m site)
-begunFor count Asked.Other = Begun.Refused (pos 0)
+begunFor count Asked.Other = Begun.Other
 
 unfoldable pub begunOf : Listed → Asked → Begun
 begunOf (Listed.Count count) asked = begunFor count asked
-begunOf (Listed.Refused r) asked = Begun.Refused (pos (number r))
+begunOf (Listed.Refused r) asked = Begun.Refused r
 
--- how many entries there are, and their night; or the number of the refusal
+-- how many entries there are, and their night; or the refusal; or a line of another form
 unfoldable pub begun : List ℕ → List ℕ → Begun
 begun file line = begunOf (listCount file) (askedOf line)
 
--- ---- a line of the answer
+-- number and values: the count, and the 20 numbers of the night
+unfoldable pub begunAnswer : Begun → Answer
+begunAnswer (Begun.For count n) = given (pos count ∷ preparedAnswer (Prepared.For n) .values)
+begunAnswer (Begun.Refused r) = refused r 21
+begunAnswer Begun.Other = otherForm
+
+-- ---- the line of an entry
 
 -- of a star in a night, worked as an entry of a list is
 unfoldable pub starLine : Bool → Night → ℕ → Starred → List ℕ

@@ -78,3 +78,22 @@ begun-fits (Listed.Count c) (Asked.For m site) count n e = begun-in-fits m site 
 pub night-of-begun : (file line : List ℕ) (count : ℕ) (n : Night) → begun file line ≡ Begun.For count n → NightFits n
 unfolding begun
 night-of-begun file line count n e = begun-fits (listCount file) (askedOf line) count n e
+
+-- ---- how many entries there are
+
+begun-in-counted : (p : Prepared) (c count : ℕ) (n : Night) → begunIn c p ≡ Begun.For count n → c ≡ count
+unfolding begunIn
+begun-in-counted (Prepared.Refused r) c count n e = let z : true ≡ false = cc in true-not-false z
+begun-in-counted (Prepared.For k) c count n e = cc
+
+begun-counted : (l : Listed) (asked : Asked) (count : ℕ) (n : Night) → begunOf l asked ≡ Begun.For count n
+    → l ≡ Listed.Count count
+unfolding begunOf begunFor
+begun-counted (Listed.Refused r) asked count n e = let z : true ≡ false = cc in true-not-false z
+begun-counted (Listed.Count c) Asked.Other count n e = let z : true ≡ false = cc in true-not-false z
+begun-counted (Listed.Count c) (Asked.For m site) count n e =
+    ap Listed.Count (begun-in-counted (nightOf m site) c count n e)
+
+pub count-of-begun : (file line : List ℕ) (count : ℕ) (n : Night) → begun file line ≡ Begun.For count n → count ≤ 64
+unfolding begun
+count-of-begun file line count n e = accepted-few file count (begun-counted (listCount file) (askedOf line) count n e)

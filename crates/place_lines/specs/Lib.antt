@@ -1,5 +1,12 @@
--- What our own program `places` answers, not of document 01: definitions, and what is known of them.
+-- What our own program `places` answers and prints, not of document 01: definitions, and what is known of them.
 pub mod Answers
+pub mod Program
 -- laws
+pub mod OneToOne
 pub mod Entries
 pub mod Lengths
+pub mod Lines
+pub mod Printed
+pub mod Cuts
+pub mod Commands
+pub mod Sample

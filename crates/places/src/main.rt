@@ -3,45 +3,43 @@
 //   places FILE [sexagesimal]
 //
 // Standard input: one line, `YYYY-MM-DD hh:mm:ss.mmm d latitude longitude`, angles in µas.
-// Standard output: a header and a line for each entry, or `refused N`. What went wrong with the
-// arguments or with reading goes to standard error, and then nothing to standard output.
+// Standard output: a header and a line for each entry, or `refused N`. `place_lines::print_answer`
+// works it out whole, and it is written at once. What went wrong with the arguments, with reading
+// or with writing is a line on standard error; of the first two, standard output then has nothing.
 
-use crate::printing::print_answer;
-use crate::reading::read_file;
-use crate::reading::read_line;
+use input::read_file;
+use input::read_line;
+use place_lines::command::is_command;
+use place_lines::print_answer;
 
-pub mod printing;
-pub mod reading;
-
-// Whether the bytes are the word that asks for people's angles.
-fn is_sexagesimal(word: &[u8]) -> bool {
-    let wanted = *b"sexagesimal";
-    if word.len() != 11 {
-        return false;
-    }
-    let mut i: usize = 0;
-    while i < 11 {
-        if word[i] != wanted[i] {
-            return false;
-        }
-        i += 1;
-    }
-    true
+// A message that a file could not be opened or read, by its name.
+fn fail(path: &[u8]) {
+    io::write_all(2, b"places: ");
+    os::fail(path);
 }
 
-// Answers standard input by an open file; path is its name, for a message.
+// Answers standard input by an open file; path is its name, for a message. Of the file 1,544 bytes
+// are enough, of the line 65 (place_lines/specs/Cuts.antt).
 fn answer(fd: i32, path: &[u8], people: bool) {
-    let file = read_file(fd);
-    if !file.is_read {
-        os::fail(path);
+    let mut file = [0u8; 1544];
+    let contents = read_file(fd, &mut file);
+    if !contents.is_read {
+        fail(path);
         return;
     }
-    let line = read_line();
-    let bytes = file.bytes;
-    let len = file.len;
-    let text = line.bytes;
-    let end = line.len;
-    print_answer(&bytes[..len], &text[..end], people);
+    let mut input = [0u8; 65];
+    let line = read_line(0, &mut input);
+    if !line.is_read {
+        os::fail(b"places: standard input");
+        return;
+    }
+    let length = contents.length;
+    let end = line.length;
+    let mut out = [0u8; 8448];
+    let n = print_answer(&file[..length], &input[..end], people, &mut out);
+    if !io::write_all(1, &out[..n]) {
+        os::fail(b"places: standard output");
+    }
 }
 
 fn usage() {
@@ -49,29 +47,29 @@ fn usage() {
 }
 
 fn main() {
-    let arguments = os::arg_count();
+    let words = os::arg_count();
+    let mut third = io::buffer();
+    let end = os::arg(2, &mut third);
+    if !is_command(words, &third[..end]) {
+        usage();
+        return;
+    }
     let mut path = io::buffer();
     let length = os::arg(1, &mut path);
     if os::errno() != 0 {
-        usage();
-        return;
-    }
-    let mut word = io::buffer();
-    let end = os::arg(2, &mut word);
-    let people = is_sexagesimal(&word[..end]);
-    if 2 < arguments && !people {
-        usage();
-        return;
-    }
-    if 3 < arguments {
-        usage();
+        os::fail(b"places: FILE");
         return;
     }
     let fd = os::open_read(&path[..length]);
     if fd < 0 {
-        os::fail(&path[..length]);
+        fail(&path[..length]);
         return;
     }
-    answer(fd, &path[..length], people);
+    // a file gets the number of standard input only where that is closed
+    if fd == 0 {
+        io::write_all(2, b"places: standard input: closed\n");
+        return;
+    }
+    answer(fd, &path[..length], words == 3);
     libc::close(fd);
 }

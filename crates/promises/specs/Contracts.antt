@@ -37,6 +37,10 @@ module _ {M : Type 1} (𝓤 : URA M) (T : Ended) (contract : Clauses 𝓤 T) whe
       (fact 𝓤 ((r ≡ s) × (content κs x ≡ content κs y)))
 
 module _ {M : Type 1} (𝓤 : URA M) where
+  -- what follows from what is told is told
+  pub so-told : {P : SProp 𝓤} {φ ψ : Type 0} → ent 𝓤 P (fact 𝓤 φ) → (φ → ψ) → ent 𝓤 P (fact 𝓤 ψ)
+  so-told {φ = φ} {ψ = ψ} h f = via 𝓤 (fact 𝓤 φ) h (fact-mono 𝓤 φ ψ f)
+
   -- two assertions that tell of v and of w that they are the rule's
   told : {W : Type 0} {P Q : SProp 𝓤} (v w rule : W) → ent 𝓤 P (fact 𝓤 (v ≡ rule)) → ent 𝓤 Q (fact 𝓤 (w ≡ rule))
       → ent 𝓤 (conj 𝓤 P Q) (fact 𝓤 (v ≡ w))

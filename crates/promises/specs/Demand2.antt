@@ -1,6 +1,7 @@
 -- Demand 2: each polynomial lies within 2 µas of its exact value, each sine and cosine within 4 parts in 2^30 of its
--- series; and what 01 promises of a reading and of the ranges of a place. That every rule is followed to the last unit
--- is each function's own contract, an equality with the rule (`OnlyOne`).
+-- series; and what 01 promises of a reading and of the ranges of a place. `Demand2OfFunctions` has it of the functions.
+-- That every rule is followed to the last unit is each function's own contract, an equality with the rule: `ByContract`
+-- and `ByContractForC`.
 use mathlib.Core.Path.{_≡_}
 use mathlib.Core.List.{List}
 use Prim.Native.Nat.{suc, _+_, _-_, _*_, _≤_, _<_, _^_}

@@ -1,5 +1,6 @@
 -- Demand 3: of an accepted direction and a list of up to 1,000 accepted turns, no turn refuses, every length is kept,
--- and the opposite turns in reverse order lead back. A turn is `turned` of the rules, with its refusals.
+-- and the opposite turns in reverse order lead back. A turn is `turned` of the rules, with its refusals; of calls of
+-- the functions, `Demand3OfCalls` has it.
 use mathlib.Core.List.{List, _++_}
 use Prim.Native.Nat.{ℕ, _*_, _≤_}
 use native.Mathlib.Nat.{le-trans}

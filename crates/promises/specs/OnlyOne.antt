@@ -46,6 +46,7 @@ pub mod Numerals
 pub mod Fields
 pub mod NumberLines
 pub mod Lines
+pub mod LineReads
 pub mod Asking
 pub mod Sexagesimal
 pub mod EntryLines

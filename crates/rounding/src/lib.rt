@@ -1,12 +1,13 @@
 // Rnd of a quotient, document 01's one rounding. No sum or product on the way passes an i64.
 
 ghost use mathlib.Core.Path.{_≡_};
-ghost use Prim.Native.Nat.{_≤_, _^_};
+ghost use Prim.Native.Nat.{_≤_, _<_, _^_};
 ghost use lib.IntN.{ℤ, pos, natAbs, _*ℤ_};
-ghost use lib.Signed.{_<ℤ_};
+ghost use lib.Signed.{quotZ, _<ℤ_};
 ghost use Rattle.rules.specs.Units.{unit};
 ghost use Rattle.rules.specs.Rounding.{rnd};
 ghost use Rattle.laws.specs.Product.{ProductFits};
+ghost use Rattle.rounding.specs.Given.{mostDividend};
 
 // A digit of a carried product, and the same twice.
 const DIGIT: i64 = 1048576;
@@ -22,14 +23,25 @@ const HALF_UNIT: i64 = 536870912;
 // Returned: Rnd(a / b), no larger in size than a.
 // Rule: 01, "Numbers, angles, instants".
 //
-// Both operators go toward zero and keep the sign of a, so there is no case on signs; the second
-// quotient is 1, 0 or -1. The text-book (2 * a + b) / (2 * b) would pass the word from a = 2^62 up.
+// Both operators go toward zero and keep the sign of a, so there is no case on signs. The text-book
+// (2 * a + b) / (2 * b) would pass the word from a = 2^62 up.
 pub fn rnd_quotient(a: i64, b: i64) -> i64
     requires { ⌜ pos 0 <ℤ b ⌝ }
     requires { ⌜ natAbs b ≤ 2 ^ 62 ⌝ }
     ensures { λ r. ⌜ r ≡ rnd a (natAbs b) ⌝ }
 {
-    a / b + 2 * (a % b) / b
+    a / b + step_away(a % b, b)
+}
+
+// From the quotient toward zero to the nearest: 1 or -1 where the rest is half of b or more, 0 where
+// it is less.
+fn step_away(rest: i64, b: i64) -> i64
+    requires { ⌜ pos 0 <ℤ b ⌝ }
+    requires { ⌜ natAbs b ≤ 2 ^ 62 ⌝ }
+    requires { ⌜ natAbs rest < natAbs b ⌝ }
+    ensures { λ r. ⌜ r ≡ quotZ (pos 2 *ℤ rest) b ⌝ }
+{
+    2 * rest / b
 }
 
 // Rnd(a / b) of a dividend that leaves room in the word: one division.
@@ -40,7 +52,7 @@ pub fn rnd_quotient(a: i64, b: i64) -> i64
 //
 // Half of b is added away from zero, and the operator goes back toward zero.
 pub fn rnd_short_quotient(a: i64, b: i64) -> i64
-    requires { ⌜ natAbs a ≤ 2 ^ 62 ⌝ }
+    requires { ⌜ natAbs a ≤ mostDividend ⌝ }
     requires { ⌜ pos 0 <ℤ b ⌝ }
     requires { ⌜ natAbs b ≤ 2 ^ 62 ⌝ }
     ensures { λ r. ⌜ r ≡ rnd a (natAbs b) ⌝ }
@@ -61,7 +73,7 @@ pub fn rnd_short_quotient(a: i64, b: i64) -> i64
 //
 // A shift goes down: half of 2^30 is added, and one less below nought, where a half goes down too.
 pub fn rnd_by_unit(a: i64) -> i64
-    requires { ⌜ natAbs a ≤ 2 ^ 62 ⌝ }
+    requires { ⌜ natAbs a ≤ mostDividend ⌝ }
     ensures { λ r. ⌜ r ≡ rnd a unit ⌝ }
 {
     (a + HALF_UNIT + (a >> 63)) >> 30

@@ -1,9 +1,9 @@
 -- Document 01, "Refusal numbers": the number and values of each answer. Definitions only.
 use mathlib.Core.List.{List, [], _∷_, _++_}
 use lib.IntN.{ℤ, pos}
-use Rattle.rules.specs.Data.{Pair, Numbered, Dated, Instants, Angle, Precessed, Argued, Nutated}
+use Rattle.rules.specs.Data.{Pair, Moment, Numbered, Dated, Instants, Line, Angle, Precessed, Argued, Nutated}
 use Rattle.rules.specs.Data.{Turned, Prepared, Placed, Listed, Starred}
-use Rattle.rules.specs.Refusals.{Answer, given, refused}
+use Rattle.rules.specs.Refusals.{Answer, given, refused, otherForm}
 
 -- the day number
 unfoldable pub numberedAnswer : Numbered → Answer
@@ -19,6 +19,15 @@ datedAnswer (Dated.Refused r) = refused r 3
 unfoldable pub instantsAnswer : Instants → Answer
 instantsAnswer (Instants.At ut tt) = given (ut .0 ∷ tt .0 ∷ [])
 instantsAnswer (Instants.Refused r) = refused r 2
+
+-- year, month, day; hour, minute, second, ms; UT1−UTC
+unfoldable pub momentNumbers : Moment → List ℤ
+momentNumbers m = m .date .year ∷ m .date .month ∷ m .date .day
+    ∷ m .time .hour ∷ m .time .minute ∷ m .time .second ∷ m .time .ms ∷ m .difference ∷ []
+
+unfoldable pub lineAnswer : Line → Answer
+lineAnswer (Line.Of m) = given (momentNumbers m)
+lineAnswer Line.Other = otherForm
 
 -- the angle
 unfoldable pub angleAnswer : Angle → Answer

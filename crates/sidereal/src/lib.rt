@@ -7,7 +7,7 @@ use rules::Refusal;
 use rules::Ut;
 use units::DAY;
 ghost use mathlib.Core.Path.{_≡_};
-ghost use Rattle.rules.specs.Sidereal.{sidereal, siderealAt};
+ghost use Rattle.rules.specs.Sidereal.{siderealPolynomial, sidereal, siderealAt};
 ghost use Rattle.laws.specs.Instant.{InRange};
 
 // The sidereal angle.
@@ -19,8 +19,19 @@ pub fn sidereal_of(t: Ut) -> i64
     requires { ⌜ InRange (t .0) ⌝ }
     ensures { λ r. ⌜ r ≡ sidereal t ⌝ }
 {
-    let mean = cubic(t.0, 1009658226150, 129602772192990, 1396560, -93);
-    whole::on_circle(mean + 15000 * whole::modulo_of(t.0, DAY))
+    whole::on_circle(sidereal_polynomial_of(t) + 15000 * whole::modulo_of(t.0, DAY))
+}
+
+// The sidereal polynomial alone, before the rest is added and C taken out.
+//
+// Given: t, UT, from -Q to Q.
+// Returned: µas, not reduced by C.
+// Rule: 01, "Polynomials in time" (Aoki 1982).
+pub fn sidereal_polynomial_of(t: Ut) -> i64
+    requires { ⌜ InRange (t .0) ⌝ }
+    ensures { λ r. ⌜ r ≡ siderealPolynomial t ⌝ }
+{
+    cubic(t.0, 1009658226150, 129602772192990, 1396560, -93)
 }
 
 // The sidereal angle, at any instant.

@@ -2,6 +2,7 @@
 
 ghost use mathlib.Core.Path.{_≡_};
 ghost use lib.ListN.{length};
+ghost use lib.IntN.{pos};
 ghost use lib.Signed.{mag};
 ghost use Prim.Native.Nat.{_+_, _-_, _*_, _<_, _≤_, _^_};
 ghost use Rattle.rules.specs.Rounding.{modulo};
@@ -40,11 +41,11 @@ pub fn number_at(file: &[u8], at: usize, width: usize) -> i64
 }
 
 // The number without a sign in the two bytes from `at` on.
-pub fn two_bytes_at(file: &[u8], at: usize) -> usize
+pub fn two_bytes_at(file: &[u8], at: usize) -> i64
     requires { ⌜ at + 2 ≤ length (now file) ⌝ }
-    ensures { λ r. ⌜ (r ≡ unsignedAt at 2 (now (file .entry))) × (r < 2 ^ 16) ⌝ }
+    ensures { λ r. ⌜ r ≡ pos (unsignedAt at 2 (now (file .entry))) ⌝ }
 {
-    file[at] as usize + 256 * file[at + 1] as usize
+    joined(file[at], joined(file[at + 1], 0))
 }
 
 // The lowest byte of a number in two's complement.

@@ -75,10 +75,12 @@ pub fn list_count(file: &[u8]) -> Listed
     if mark_refused(file) {
         return Listed::Refused(Refusal::Mark);
     }
-    let count = two_bytes_at(file, 5);
-    if MOST < count {
+    // a number of the file, until it is known to be small: then an index
+    let number = two_bytes_at(file, 5);
+    if (MOST as i64) < number {
         return Listed::Refused(Refusal::Count);
     }
+    let count = number as usize;
     if file.len() != HEAD + RECORD * count {
         return Listed::Refused(Refusal::Count);
     }

@@ -12,7 +12,7 @@ use rules::Tt;
 use units::UNIT;
 ghost use mathlib.Core.Path.{_≡_};
 ghost use Rattle.rules.specs.Circle as rule;
-ghost use Rattle.rules.specs.Sun.{centre, sunLongitude, sunLongitudeAt};
+ghost use Rattle.rules.specs.Sun.{meanLongitude, centre, sunLongitude, sunLongitudeAt};
 ghost use Rattle.laws.specs.Instant.{InRange};
 
 // The Sun's longitude.
@@ -24,7 +24,19 @@ pub fn sun_longitude_of(t: Tt) -> i64
     requires { ⌜ InRange (t .0) ⌝ }
     ensures { λ r. ⌜ r ≡ sunLongitude t ⌝ }
 {
-    quadratic(t.0, 1009679256000, 129602771388000, 1091520) + centre_of(t)
+    mean_longitude_of(t) + centre_of(t)
+}
+
+// The Sun's mean longitude.
+//
+// Given: t, TT, from -Q to Q.
+// Returned: µas, not reduced by C.
+// Rule: 01, "Polynomials in time".
+pub fn mean_longitude_of(t: Tt) -> i64
+    requires { ⌜ InRange (t .0) ⌝ }
+    ensures { λ r. ⌜ r ≡ meanLongitude t ⌝ }
+{
+    quadratic(t.0, 1009679256000, 129602771388000, 1091520)
 }
 
 // The centre: the three products are summed and rounded once.

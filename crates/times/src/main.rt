@@ -1,111 +1,98 @@
 // The program `times`, document 01, "Dates": reads lines to the end of standard input, and prints a
 // header, then for each line the day number, UT and TT, or the refusal. A last line without its end
 // counts.
+//
+// What is printed for what is read is proved of `line_reads`; here it is read, answered and handed
+// out. An argument, an input that cannot be read and an output that cannot be written each get a
+// line on standard error, and end the program.
 
+use line_reads::Start;
+use line_reads::answer_read;
+use line_reads::begin;
+ghost use mathlib.Core.Path.{_≡_};
+ghost use mathlib.Core.Bool.{true};
 ghost use Prim.Native.Nat.{_≤_};
+ghost use lib.ListN.{take};
+ghost use Rattle.times.specs.Turns.{Handed, Turned};
 
-// The start of a line: its first bytes, as many as there is room for. A longer line is of another
-// form, and so is its start, so nothing is lost.
-pub struct Start {
-    pub bytes: [u8; 32],
-    pub len: usize,
-}
-
-// What a read leaves: the start of the line that it breaks off in, and whether there may be more.
-pub struct Got {
+// What a turn leaves: the start of the line that its read broke off in, and whether to go on.
+pub struct Turn {
     pub start: Start,
     pub more: bool,
 }
 
-fn empty() -> Start
-    ensures { λ r. ⌜ r .len ≤ 32 ⌝ }
+// Whether standard input can be read. To read no byte takes none and does not wait.
+fn is_readable() -> bool {
+    let mut byte = [0u8; 1];
+    let got = libc::read(0, &mut byte[..0]);
+    0 <= got
+}
+
+// Hands the front of the room to standard output, and answers whether it was taken.
+fn hand_out(out: &[u8; 65536], written: usize) -> bool
+    requires { ⌜ written ≤ 65536 ⌝ }
+    requires { ⌜ Handed (take written (now out)) ⌝ }
 {
-    Start {
-        bytes: [0u8; 32],
-        len: 0,
+    let all: &[u8] = out;
+    if io::write_all(1, &all[..written]) {
+        return true;
+    }
+    os::fail(b"times: standard output");
+    false
+}
+
+// One read, and its answers. A read of nothing is the end of the input.
+fn read_some(start: Start, out: &mut [u8; 65536]) -> Turn
+    ensures { λ r. ⌜ (r .more ≡ true
+        → Turned start (now (out .entry)) (r .start) (now (out .exit))) ⌝ }
+{
+    let mut input = [0u8; 1024];
+    let got = libc::read(0, &mut input);
+    if got < 0 {
+        os::fail(b"times: standard input");
+        return Turn { start, more: false };
+    }
+    let count = io::count(got, &input);
+    let step = answer_read(start, &input, count, out);
+    let next = step.start;
+    if !hand_out(out, step.written) {
+        return Turn {
+            start: next,
+            more: false,
+        };
+    }
+    Turn {
+        start: next,
+        more: 0 < count,
     }
 }
 
-fn push(start: Start, b: u8) -> Start
-    requires { ⌜ start .len ≤ 32 ⌝ }
-    ensures { λ r. ⌜ r .len ≤ 32 ⌝ }
-{
-    let at = start.len;
-    let mut longer = start;
-    if at < 32 {
-        longer.bytes[at] = b;
-        longer.len = at + 1;
-    }
-    longer
-}
-
-// Prints the answer of a line.
-fn answer(start: Start)
-    requires { ⌜ start .len ≤ 32 ⌝ }
-{
-    let bytes = start.bytes;
-    let len = start.len;
-    let mut out = [0u8; 64];
-    let n = lines::print_line(&bytes[..len], &mut out);
-    out[n] = b'\n';
-    let end = n + 1;
-    io::write_all(1, &out[..end]);
-}
-
-// One byte more: the end of a line, or a byte of it.
-fn byte(start: Start, b: u8) -> Start
-    requires { ⌜ start .len ≤ 32 ⌝ }
-    ensures { λ r. ⌜ r .len ≤ 32 ⌝ }
-{
-    if b == b'\n' {
-        answer(start);
-        return empty();
-    }
-    push(start, b)
-}
-
-fn all_bytes(start: Start, s: &[u8]) -> Start
-    requires { ⌜ start .len ≤ 32 ⌝ }
-    ensures { λ r. ⌜ r .len ≤ 32 ⌝ }
-{
-    let mut line = start;
-    let mut i = 0;
-    while i < s.len() {
-        line = byte(line, s[i]);
-        i += 1;
-    }
-    line
-}
-
-fn read_some(start: Start) -> Got
-    requires { ⌜ start .len ≤ 32 ⌝ }
-    ensures { λ r. ⌜ r .start .len ≤ 32 ⌝ }
-{
-    let mut buffer = io::large_buffer();
-    let got = libc::read(0, &mut buffer);
-    if got <= 0 {
-        return Got { start, more: false };
-    }
-    let n = io::count(got, &buffer);
-    Got {
-        start: all_bytes(start, &buffer[..n]),
-        more: true,
-    }
-}
-
-fn main() {
-    io::write_all(1, b"day ut tt\n");
-    let mut line = empty();
+// Reads, answers and hands out to the end of the input. No input has more reads than are counted.
+fn answer_all(begun: Start, out: &mut [u8; 65536]) {
+    let mut start = begun;
     let mut turns = i64::MAX;
     while turns > 0 {
-        let got = read_some(line);
-        line = got.start;
-        if !got.more {
+        let turn = read_some(start, out);
+        start = turn.start;
+        if !turn.more {
             break;
         }
         turns -= 1;
     }
-    if 0 < line.len {
-        answer(line);
+}
+
+fn main() {
+    if 1 < os::arg_count() {
+        io::write_all(2, b"usage: times < FILE\n");
+        return;
+    }
+    if !is_readable() {
+        os::fail(b"times: standard input");
+        return;
+    }
+    let mut out = io::large_buffer();
+    let begun = begin(&mut out);
+    if hand_out(&out, begun.written) {
+        answer_all(begun.start, &mut out);
     }
 }

@@ -10,28 +10,29 @@ use units::HEAD;
 use units::MOST;
 use units::RECORD;
 ghost use mathlib.Core.Path.{_≡_};
-ghost use mathlib.Core.Bool.{cond};
+ghost use mathlib.Core.Bool.{_||_};
 ghost use lib.ListN.{length};
-ghost use Prim.Native.Nat.{_+_, _<_, _^_};
 ghost use Rattle.rules.specs.Stars.{starRefused};
 ghost use Rattle.rules.specs.ListReading.{leaving};
 ghost use Rattle.laws.specs.FileLength.{headOf};
 ghost use Rattle.writing_plan.specs.Plans.{Ready, writePlan};
 ghost use Rattle.star_bytes.specs.Puts.{put};
 
-// One more where the entry's star is accepted.
-pub fn tally(n: usize, entry: Entry) -> usize
-    requires { ⌜ n < 2 ^ 63 ⌝ }
-    ensures { λ r. ⌜ r ≡ n + cond (starRefused (entry .star)) 0 1 ⌝ }
+// Whether a star is refused up to this entry, where `refused` says so of the entries before it.
+pub fn refused_up_to(refused: bool, entry: Entry) -> bool
+    ensures { λ r. ⌜ r ≡ refused || starRefused (entry .star) ⌝ }
 {
-    if star_refused(entry.star) { n } else { n + 1 }
+    if refused {
+        return true;
+    }
+    star_refused(entry.star)
 }
 
-// The checks of writing `count` stars, `accepted` of which are accepted: 5, then 11.
-pub fn write_plan(accepted: usize, count: usize, room: usize) -> Plan
-    ensures { λ r. ⌜ r ≡ writePlan accepted count room ⌝ }
+// The checks of writing `count` stars, one of which is refused or none: 5, then 11.
+pub fn write_plan(refused: bool, count: usize, room: usize) -> Plan
+    ensures { λ r. ⌜ r ≡ writePlan refused count room ⌝ }
 {
-    if accepted != count {
+    if refused {
         return Plan {
             answer: Listed::Refused(Refusal::Star),
             todo: 0,

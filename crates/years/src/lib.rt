@@ -14,7 +14,7 @@ const DAYS: [[u8; 12]; 2] = [
     [31, 29, 31, 30, 31, 30, 31, 31, 30, 31, 30, 31],
 ];
 
-// 1 in a leap year, 0 in a common one.
+// The row of a year, as an index: 1 in a leap year, 0 in a common one.
 pub fn leap(year: i64) -> usize
     ensures { λ r. ⌜ r ≡ rule.leap (natAbs year) ⌝ }
 {

@@ -81,8 +81,14 @@ exported! {
     NUTATION = inner_nutation(tt: i64) -> (refused, longitude, obliquity);
     /// The Sun's longitude.
     SUN = inner_sun(tt: i64) -> (refused, angle);
+    /// The Sun's mean longitude.
+    MEAN_LONGITUDE = inner_mean_longitude(tt: i64) -> (refused, angle);
+    /// bx and by of the aberration, and the three numbers that it adds.
+    ABERRATION = inner_aberration(tt: i64) -> (refused, bx, by, x, y, z);
     /// The sidereal angle at a UT instant.
     SIDEREAL = inner_sidereal(ut: i64) -> (refused, angle);
+    /// The sidereal polynomial alone.
+    SIDEREAL_POLYNOMIAL = inner_sidereal_polynomial(ut: i64) -> (refused, angle);
 }
 
 #[cfg(exported = "place")]

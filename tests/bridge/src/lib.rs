@@ -17,3 +17,4 @@ pub mod face;
 pub mod files;
 pub mod function;
 pub mod ranges;
+pub mod steps;

@@ -5,6 +5,7 @@ use bridge::chance::{around, Chance};
 use bridge::compare::{compare, compare_lent, words};
 use bridge::face::{DATE_OF, DAY_OF, INSTANTS, TIMES_LINE};
 use bridge::function::Call;
+use bridge::steps::about_every_step;
 use second::dates::{self, Date, Moment, Tt, Ut};
 use second::units::Whole;
 
@@ -74,21 +75,12 @@ fn every_day() {
 /// The last two seconds before a step, its added second, and the first second after: to the millisecond.
 #[test]
 fn both_sides_of_every_step() {
-    let mut calls = Vec::new();
-    for step in dates::steps() {
-        let after = dates::day_of(step).expect("a step is in the span");
-        let before = dates::date_of(after - 1).expect("a step has a day before");
-        let seconds = [(before, 23, 59, 58), (before, 23, 59, 59), (before, 23, 59, 60), (step, 0, 0, 0)];
-        for (date, hour, minute, second) in seconds {
-            for ms in -1..=1000 {
-                for difference in [-900, 0, 900] {
-                    let Date { year, month, day } = date;
-                    let call = [year, month, day, hour, minute, second, ms, difference];
-                    calls.push(call.map(|part| part as i64));
-                }
-            }
-        }
-    }
+    let milliseconds = |[year, month, day, hour, minute, second]: [i64; 6]| {
+        (-1..=1000).flat_map(move |ms| {
+            [-900, 0, 900].map(|difference| [year, month, day, hour, minute, second, ms, difference])
+        })
+    };
+    let calls = about_every_step().into_iter().flat_map(milliseconds);
     compare(&INSTANTS, "both sides of every step", calls, instants);
 }
 

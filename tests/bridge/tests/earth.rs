@@ -1,12 +1,17 @@
-//! Precession, obliquity, nutation, Sun and sidereal time: `earth` beside `earth.rs`.
+//! Precession, obliquity, nutation, Sun, sidereal time and aberration: `earth` beside `earth.rs` and `place.rs`.
 #![cfg(exported = "earth")]
 
 use bridge::chance::{around, Chance};
 use bridge::compare::{compare, words};
-use bridge::face::{ARGUMENTS, NUTATION, OBLIQUITY, PRECESSION, SIDEREAL, SUN};
+use bridge::face::{
+    ABERRATION, ARGUMENTS, MEAN_LONGITUDE, NUTATION, OBLIQUITY, PRECESSION, SIDEREAL, SIDEREAL_POLYNOMIAL,
+    SUN,
+};
 use bridge::function::Function;
 use second::dates::{Tt, Ut};
 use second::earth;
+use second::place;
+use second::turning::Direction;
 use second::units::{CENTURY, DAY};
 
 const RANDOM: usize = 200_000;
@@ -65,6 +70,25 @@ fn sun() {
 }
 
 #[test]
+fn mean_longitude() {
+    compare_instants(&MEAN_LONGITUDE, |t| Ok(vec![earth::mean_longitude(Tt(t))?]));
+}
+
+#[test]
+fn aberration() {
+    compare_instants(&ABERRATION, |t| {
+        let (bx, by) = place::aberration(Tt(t))?;
+        let Direction { x, y, z } = place::added(Tt(t))?;
+        Ok(vec![bx, by, x, y, z])
+    });
+}
+
+#[test]
 fn sidereal() {
     compare_instants(&SIDEREAL, |t| Ok(vec![earth::sidereal(Ut(t))?]));
+}
+
+#[test]
+fn sidereal_polynomial() {
+    compare_instants(&SIDEREAL_POLYNOMIAL, |t| Ok(vec![earth::sidereal_polynomial(Ut(t))?]));
 }

@@ -6,8 +6,10 @@ use bridge::chance::Chance;
 use bridge::compare::compare;
 use bridge::face::PLACE;
 use bridge::ranges::RANGES;
+use bridge::steps::about_every_step;
 
 const RANDOM: usize = 205_000;
+const RANDOM_ABOUT_A_STEP: usize = 400;
 
 /// J2000.0, a site and a star without motion.
 const GOOD: [i64; 14] = [2000, 1, 1, 12, 0, 0, 0, 0, 0, 0, 0, 0, 0, 0];
@@ -17,6 +19,32 @@ fn random_places() {
     let mut chance = Chance::new("random_places");
     let random = (0..RANDOM).map(|_| RANGES.map(|(low, high)| chance.within(low, high)));
     compare(&PLACE, "random", random, place);
+}
+
+/// Every added second, which the ranges leave out, and the seconds next to it: with any ms, difference, site and star.
+#[test]
+fn added_seconds() {
+    let mut chance = Chance::new("added_seconds");
+    let mut call = |second: &[i64; 6]| {
+        let mut call = RANGES.map(|(low, high)| chance.within(low, high));
+        call[..second.len()].copy_from_slice(second);
+        call
+    };
+    let seconds = about_every_step();
+    let calls = seconds.iter().flat_map(|second| [second; RANDOM_ABOUT_A_STEP]).map(|second| call(second));
+    compare(&PLACE, "about every step", calls, place);
+
+    // the added second alone, its first and its last ms
+    let added = seconds.iter().filter(|second| second[5] == 60);
+    let ends = added.flat_map(|second| {
+        [0, 999].map(|ms| {
+            let mut call = GOOD;
+            call[..second.len()].copy_from_slice(second);
+            call[second.len()] = ms;
+            call
+        })
+    });
+    compare(&PLACE, "ends of every added second", ends, place);
 }
 
 /// Stars and sites at the ends and in the middle of every range, at the first, middle and last moment of the span:

@@ -62,29 +62,34 @@ pub fn arguments(Tt(t): Tt) -> Result<Arguments, Refusal> {
     })
 }
 
+/// The Sun's mean longitude, not reduced.
+pub fn mean_longitude(Tt(t): Tt) -> Result<Whole, Refusal> {
+    check_instant(t)?;
+    Ok(polynomial(&[1009679256000, 129602771388000, 1091520], t))
+}
+
 /// The Sun's longitude, not reduced: the mean longitude and the centre.
 pub fn sun(tt: Tt) -> Result<Whole, Refusal> {
     let Arguments { l1, .. } = arguments(tt)?;
     let Tt(t) = tt;
-    let mean = polynomial(&[1009679256000, 129602771388000, 1091520], t);
     // amplitudes times the sines of l′, 2l′, 3l′, summed and then Rnd by 2^30 once
     let centre = polynomial(&[6892560000, -17341200, -50400], t) * pair(l1).sine
         + polynomial(&[71974800, -363600], t) * pair(2 * l1).sine
         + polynomial(&[1044000], t) * pair(3 * l1).sine;
-    Ok(mean + rnd(centre, UNIT))
+    Ok(mean_longitude(tt)? + rnd(centre, UNIT))
 }
 
 /// The sidereal polynomial alone (Aoki 1982), before the rest is added and C taken out.
-pub fn sidereal_polynomial(Ut(t): Ut) -> Whole {
-    polynomial(&[1009658226150, 129602772192990, 1396560, -93], t)
+pub fn sidereal_polynomial(Ut(t): Ut) -> Result<Whole, Refusal> {
+    check_instant(t)?;
+    Ok(polynomial(&[1009658226150, 129602772192990, 1396560, -93], t))
 }
 
 /// Sidereal: the polynomial at t = UT, plus 15,000 × (UT modulo 86,400,000), modulo C.
 pub fn sidereal(ut: Ut) -> Result<Whole, Refusal> {
     let Ut(t) = ut;
-    check_instant(t)?;
     let of_day = 15_000 * modulo(t, DAY);
-    Ok(modulo(sidereal_polynomial(ut) + of_day, CIRCLE))
+    Ok(modulo(sidereal_polynomial(ut)? + of_day, CIRCLE))
 }
 
 /// Multiples of l, l′, F, D, Ω; amplitude and change a century, longitude (sines) then obliquity (cosines).

@@ -92,21 +92,25 @@ fn moved(star: Star, Tt(t): Tt) -> Result<Direction, Refusal> {
     turns(start, &[(2, -declination % CIRCLE), (3, right_ascension % CIRCLE)])
 }
 
-/// 4. Aberration, circular orbit, with S the Sun's longitude.
-fn aberrated(direction: Direction, tt: Tt) -> Result<Direction, Refusal> {
+/// 4. Aberration, circular orbit, with S the Sun's longitude: bx = Rnd(106692 sin S/2^30),
+/// by = −Rnd(106692 cos S/2^30).
+pub fn aberration(tt: Tt) -> Result<(Whole, Whole), Refusal> {
     let of_sun = pair(sun(tt)?);
+    Ok((rnd(106_692 * of_sun.sine, UNIT), -rnd(106_692 * of_sun.cosine, UNIT)))
+}
+
+/// 4. What is added: (bx, Rnd(by cos ε/2^30), Rnd(by sin ε/2^30)).
+pub fn added(tt: Tt) -> Result<Direction, Refusal> {
+    let (bx, by) = aberration(tt)?;
     let of_obliquity = pair(obliquity(tt)?);
-    // bx = Rnd(106692 sin S/2^30), by = −Rnd(106692 cos S/2^30)
-    let bx = rnd(106_692 * of_sun.sine, UNIT);
-    let by = -rnd(106_692 * of_sun.cosine, UNIT);
-    // Add (bx, Rnd(by cos ε/2^30), Rnd(by sin ε/2^30)), bring to length.
+    Ok(Direction { x: bx, y: rnd(by * of_obliquity.cosine, UNIT), z: rnd(by * of_obliquity.sine, UNIT) })
+}
+
+/// 4. Add, bring to length.
+fn aberrated(direction: Direction, tt: Tt) -> Result<Direction, Refusal> {
+    let added = added(tt)?;
     let Direction { x, y, z } = direction;
-    let shifted = Direction {
-        x: x + bx,
-        y: y + rnd(by * of_obliquity.cosine, UNIT),
-        z: z + rnd(by * of_obliquity.sine, UNIT),
-    };
-    shifted.to_length()
+    Direction { x: x + added.x, y: y + added.y, z: z + added.z }.to_length()
 }
 
 /// 6. Local sidereal angle: sidereal + Rnd(Δψ cos ε/2^30) + longitude.

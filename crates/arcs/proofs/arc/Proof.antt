@@ -43,6 +43,10 @@ product-holds : (c : tie.After-arc-factor)
     (threeSevenths * unit)
 product-holds c = mul (u-holds (c .before .before)) (p-holds c) tt
 
+returns : tie.Need-returns
+unfolding rule.arc
+returns c = search needs ∙ rw (product-holds (c .before) .value) at (c .rnd-by-unit .ensures)
+
 square-parts-requires : tie.Need-square-parts-requires
 square-parts-requires c κs = rw (u-holds c .value) (omega (arith, u-holds c .size))
 
@@ -54,10 +58,6 @@ mul-rnd-by-unit c = mul-ok (u-holds (c .before .before)) (p-holds c) tt
 
 rnd-by-unit-requires : tie.Need-rnd-by-unit-requires
 rnd-by-unit-requires c κs = rw (product-holds c .value) (omega (arith, product-holds c .size))
-
-returns : tie.Need-returns
-unfolding rule.arc
-returns c = search needs ∙ rw (product-holds (c .before) .value) at (c .rnd-by-unit .ensures)
 
 pub arc-spec : {M : Type 1} → statement M
 arc-spec =

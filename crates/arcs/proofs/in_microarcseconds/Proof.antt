@@ -19,15 +19,15 @@ t-holds c = arg (c .args .t) (upTo-le (c .args .t) unit (c .pre)) tt
 turned : (x y : ℤ) → x *ℤ y ≡ y *ℤ x
 turned x y = ring (x ∷ y ∷ []) (v0 ⊗ v1) (v1 ⊗ v0) tt
 
-rnd-product-quotient-requires : tie.Need-rnd-product-quotient-requires
-rnd-product-quotient-requires c κs = rw (t-holds c .value) (reading-fits (c .args .t) (t-holds c .size))
-
 returns : tie.Need-returns
 unfolding rule.inMicroarcseconds
 returns c =
     search needs
     ∙ rw (t-holds (c .before) .value) at (c .rnd-product-quotient .ensures)
     ∙ ap (λ z. rnd z halfInParts) (turned (pos half) (c .before .args .t))
+
+rnd-product-quotient-requires : tie.Need-rnd-product-quotient-requires
+rnd-product-quotient-requires c κs = rw (t-holds c .value) (reading-fits (c .args .t) (t-holds c .size))
 
 pub in-microarcseconds-spec : {M : Type 1} → statement M
 in-microarcseconds-spec = tie.close (tie.spec rnd-product-quotient-requires returns)

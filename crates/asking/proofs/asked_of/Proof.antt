@@ -17,27 +17,27 @@ returns : tie.Need-returns
 returns c = let line = c .before .before .args .line .now in sym
     (asked-short line (omega (arith, end-ge line, c .if1 .taken)))
 
-sub-word-length : tie.Need-sub-word-length
-sub-word-length c = search needs
+sub-length-before : tie.Need-sub-length-before
+sub-length-before c = search needs
 
-part-word-length-start : tie.Need-part-word-length-start
-part-word-length-start c = search needs
+part-length-before-start : tie.Need-part-length-before-start
+part-length-before-start c = search needs
 
-part-word-length-end : tie.Need-part-word-length-end
-part-word-length-end c = search needs
+part-length-before-end : tie.Need-part-length-before-end
+part-length-before-end c = search needs
 
-word-length-requires : tie.Need-word-length-requires
-word-length-requires c κs = search needs
+length-before-requires : tie.Need-length-before-requires
+length-before-requires c κs = search needs
 
-module _ (w : tie.After-word-length) where
+module _ (w : tie.After-length-before) where
   abbrev text : List ℕ
   text = w .before .before .before .before .args .line .now
 
   long : 24 ≤ length text
   long = w .before .before .if1 .left
 
-  end-of : 24 + w .word-length .result ≡ momentEnd text
-  end-of = end-is text (w .word-length .result) (w .word-length .ensures)
+  end-of : 24 + w .length-before .result ≡ momentEnd text
+  end-of = end-is text (w .length-before .result) (w .length-before .ensures)
 
 add-end : tie.Need-add-end
 add-end c = omega (arith, end-of c, end-le (text c) (long c))
@@ -53,7 +53,7 @@ add-next c = search needs
 slice-aggregate-line-of : tie.Need-slice-aggregate-line-of
 slice-aggregate-line-of c =
     let w = c .before .before in
-    sym (length-take-le (24 + w .word-length .result) (text w) (omega (arith, end-of w, end-le (text w) (long w))))
+    sym (length-take-le (24 + w .length-before .result) (text w) (omega (arith, end-of w, end-le (text w) (long w))))
 
 line-of-requires : tie.Need-line-of-requires
 line-of-requires c κs = search needs
@@ -85,9 +85,9 @@ returns-3 c =
     let line = text w in
     let e = end-of w in
     c .with-site .ensures
-    ∙ ap (withSite (m .moment .given .0 .0)) (to-end line (24 + w .word-length .result + 1))
-    ∙ sym (ap (λ x. askedIn x (drop (24 + w .word-length .result + 1) line)) (m .moment .given .1))
-    ∙ ap (λ x. askedIn x (drop (24 + w .word-length .result + 1) line)) (l .line-of .ensures)
+    ∙ ap (withSite (m .moment .given .0 .0)) (to-end line (24 + w .length-before .result + 1))
+    ∙ sym (ap (λ x. askedIn x (drop (24 + w .length-before .result + 1) line)) (m .moment .given .1))
+    ∙ ap (λ x. askedIn x (drop (24 + w .length-before .result + 1) line)) (l .line-of .ensures)
     ∙ ap (λ k. askedIn (lineOf (take k line)) (drop (k + 1) line)) e
 
 returns-4 : tie.Need-returns-4
@@ -96,8 +96,8 @@ returns-4 c =
     let l = c .before .before in
     let w = l .before .before .before in
     let line = text w in
-    sym (ap (λ x. askedIn x (drop (24 + w .word-length .result + 1) line)) (c .enum-told .given .1))
-    ∙ ap (λ x. askedIn x (drop (24 + w .word-length .result + 1) line)) (l .line-of .ensures)
+    sym (ap (λ x. askedIn x (drop (24 + w .length-before .result + 1) line)) (c .enum-told .given .1))
+    ∙ ap (λ x. askedIn x (drop (24 + w .length-before .result + 1) line)) (l .line-of .ensures)
     ∙ ap (λ k. askedIn (lineOf (take k line)) (drop (k + 1) line)) (end-of w)
 
 pub asked-of-spec : {M : Type 1} → statement M
@@ -105,10 +105,10 @@ asked-of-spec =
     tie.close
     (tie.spec
     returns
-    sub-word-length
-    part-word-length-start
-    part-word-length-end
-    word-length-requires
+    sub-length-before
+    part-length-before-start
+    part-length-before-end
+    length-before-requires
     add-end
     returns-2
     add-next

@@ -21,17 +21,17 @@ use Rattle.asking.specs.Words.{word-le, site-short, first-word-is, after
 use Rattle.asking.proofs.with_site.Statement.{statement}
 use Rattle.asking.proofs.with_site.Tie as tie
 
-word-length-requires : tie.Need-word-length-requires
-word-length-requires c κs = search needs
+length-before-requires : tie.Need-length-before-requires
+length-before-requires c κs = search needs
 
-module _ (w : tie.After-word-length) where
+module _ (w : tie.After-length-before) where
   abbrev text : List ℕ
   text = w .before .before .args .s .now
 
-  n-is : w .word-length .result ≡ wordLength text
-  n-is = w .word-length .ensures
+  n-is : w .length-before .result ≡ wordLength text
+  n-is = w .length-before .ensures
 
-  inside : w .word-length .result ≤ length text
+  inside : w .length-before .result ≤ length text
   inside = omega (arith, n-is, word-le text)
 
 digits-le : (bs : List ℕ) → ofNumber 12 bs ≡ true → length (unsigned bs) ≤ 12
@@ -49,18 +49,18 @@ add-next c = search needs
 
 slice-aggregate-of-number : tie.Need-slice-aggregate-of-number
 slice-aggregate-of-number c = let w = c .before .before in sym
-    (length-take-le (w .word-length .result) (text w) (inside w))
+    (length-take-le (w .length-before .result) (text w) (inside w))
 
 of-number-requires : tie.Need-of-number-requires
 of-number-requires c κs = search needs
 
 module _ (c : tie.After-of-number) where
-  abbrev v : tie.After-word-length
+  abbrev v : tie.After-length-before
   v = c .before .before .before
 
   first-is : (b : Bool) → c .of-number .result ≡ b → ofNumber 12 (firstWord (text v)) ≡ b
   first-is b e =
-      sym (ap (ofNumber 12) (first-word-is (text v) (v .word-length .result) (n-is v))) ∙ sym (c .of-number .ensures)
+      sym (ap (ofNumber 12) (first-word-is (text v) (v .length-before .result) (n-is v))) ∙ sym (c .of-number .ensures)
       ∙ e
 
 returns-2 : tie.Need-returns-2
@@ -85,7 +85,7 @@ module _ (c : tie.After-of-number2) where
 
   after-is : (b : Bool) → c .of-number2 .result ≡ b → ofNumber 12 (afterWord (text (v o))) ≡ b
   after-is b e =
-      sym (ap (ofNumber 12) (after-word-is (text (v o)) (v o .word-length .result) (n-is (v o))))
+      sym (ap (ofNumber 12) (after-word-is (text (v o)) (v o .length-before .result) (n-is (v o))))
       ∙ sym (c .of-number2 .ensures) ∙ e
 
 returns-3 : tie.Need-returns-3
@@ -98,7 +98,7 @@ returns-3 c = rw (
 
 slice-aggregate-signed : tie.Need-slice-aggregate-signed
 slice-aggregate-signed c = let w = v (o (c .before .before)) in sym
-    (length-take-le (w .word-length .result) (text w) (inside w))
+    (length-take-le (w .length-before .result) (text w) (inside w))
 
 signed-requires : tie.Need-signed-requires
 signed-requires c κs =
@@ -128,10 +128,10 @@ returns-4 c =
     let m = w .before .before .args .moment in
     let latitude : toZ w64 (bits (c .before .before .signed .result)) ≡ signed (firstWord (text w)) =
     toZ-ofZ {w = w64} (sfits-of (c .before .before .signed .ok)) ∙ c .before .before .signed .ensures .0
-    ∙ ap signed (first-word-is (text w) (w .word-length .result) (n-is w)) in
+    ∙ ap signed (first-word-is (text w) (w .length-before .result) (n-is w)) in
     let longitude : toZ w64 (bits (c .signed2 .result)) ≡ signed (afterWord (text w)) =
     toZ-ofZ {w = w64} (sfits-of (c .signed2 .ok)) ∙ c .signed2 .ensures .0
-    ∙ ap signed (after-word-is (text w) (w .word-length .result) (n-is w)) in
+    ∙ ap signed (after-word-is (text w) (w .length-before .result) (n-is w)) in
     rw (first-is (o b) true (not-false _ (b .before .before .if2 .left)), after-is b true (not-false _ (e .if3 .left)))
     (ap (λ (s : Site). Asked.For m s) (λ i. record { latitude = latitude i; longitude = longitude i }))
 
@@ -139,7 +139,7 @@ pub with-site-spec : {M : Type 1} → statement M
 with-site-spec =
     tie.close
     (tie.spec
-    word-length-requires
+    length-before-requires
     returns
     add-next
     slice-aggregate-of-number

@@ -66,7 +66,7 @@ module _ (k : tie.Start) where
   cy-holds : Holds (bits c *ʷ bits y) (c *ℤ y) product
   cy-holds = mul c-holds y-holds tt
 
--- ---- the needs
+-- ---- the answer
 
 -- the start, from where the fourth, sixth and eighth field has been read
 abbrev start4 : tie.After-struct-told4 → tie.Start
@@ -77,6 +77,20 @@ start6 k = start4 (k .before .before .before .before .before)
 
 abbrev start8 : tie.After-struct-told8 → tie.Start
 start8 k = start6 (k .before .before .before .before)
+
+returns : tie.Need-returns
+unfolding turn3
+returns k =
+    let b = start8 (k .before .before) in
+    let first = k .before .before .before .before .before .before .before .before .before .before .rnd-by-unit in
+    let second = k .before .rnd-by-unit2 in
+    let x-is = held64 (first .result) (first .ok)
+    ∙ rw (sub (cx-holds b) (sy-holds b) tt .value) at (first .ensures) in
+    let y-is = held64 (second .result) (second .ok)
+    ∙ rw (add (sx-holds b) (cy-holds b) tt .value) at (second .ensures) in
+    rw (x-is, y-is, z-holds b .value)
+
+-- ---- what each operation and call asks
 
 mul-rnd-by-unit : tie.Need-mul-rnd-by-unit
 mul-rnd-by-unit k = let b = k .before .before .before .before in mul-ok (c-holds b) (x-holds b) tt
@@ -105,18 +119,6 @@ rnd-by-unit-requires-2 : tie.Need-rnd-by-unit-requires-2
 rnd-by-unit-requires-2 k κs =
     let sum = add (sx-holds (start8 k)) (cy-holds (start8 k)) tt in
     rw (sum .value) (omega (arith, sum .size))
-
-returns : tie.Need-returns
-unfolding turn3
-returns k =
-    let b = start8 (k .before .before) in
-    let first = k .before .before .before .before .before .before .before .before .before .before .rnd-by-unit in
-    let second = k .before .rnd-by-unit2 in
-    let x-is = held64 (first .result) (first .ok)
-    ∙ rw (sub (cx-holds b) (sy-holds b) tt .value) at (first .ensures) in
-    let y-is = held64 (second .result) (second .ok)
-    ∙ rw (add (sx-holds b) (cy-holds b) tt .value) at (second .ensures) in
-    rw (x-is, y-is, z-holds b .value)
 
 pub turn-3-spec : {M : Type 1} → statement M
 turn-3-spec =

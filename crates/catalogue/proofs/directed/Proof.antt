@@ -30,21 +30,6 @@ negative-holds : (c : tie.Start)
     → Holds (0 -ʷ bits (c .args .declination)) (pos 0 +ℤ negℤ (c .args .declination)) (2 ^ 60)
 negative-holds c = sub (lit 0 tt) (declination-holds c) tt
 
-sub-pair : tie.Need-sub-pair
-sub-pair c = sub-ok (lit 0 tt) (declination-holds c) tt
-
-rem-pair : tie.Need-rem-pair
-rem-pair c = div-ok (negative-holds c) (lit circle tt) (ltZ-yes tt) tt
-
-rem-pair-2 : tie.Need-rem-pair-2
-rem-pair-2 c = div-ok (ra-holds (c .before .before)) (lit circle tt) (ltZ-yes tt) tt
-
-pair-requires : tie.Need-pair-requires
-pair-requires c κs = search needs
-
-pair-requires-2 : tie.Need-pair-requires-2
-pair-requires-2 c κs = search needs
-
 -- ---- their pairs
 
 first-pair : (c : tie.After-pair) → c .pair .result ≡ pair (remainder (negℤ (c .before .args .declination)))
@@ -52,11 +37,6 @@ unfolding remainder
 first-pair c =
     rw (rem (negative-holds (c .before)) (lit circle tt) (ltZ-yes tt) tt .value) at (c .pair .ensures)
     ∙ ap (λ z. pair (remZ z (pos circle))) (+ℤ-idl (negℤ (c .before .args .declination)))
-
-turn-by-requires : tie.Need-turn-by-requires
-turn-by-requires c κs =
-    let opposite = negℤ (c .before .args .declination) in
-    record { direction = ahead-accepted; pair = rw (first-pair c) (pair-length (remainder opposite)) }
 
 abbrev raised : tie.Start → Direction
 raised c = turnBy (+ 2) (pair (remainder (negℤ (c .args .declination)))) ahead
@@ -73,6 +53,35 @@ unfolding remainder
 second-pair c =
     rw (rem (ra-holds (c .before .before .before)) (lit circle tt) (ltZ-yes tt) tt .value) at (c .pair2 .ensures)
 
+returns : tie.Need-returns
+unfolding directed
+returns c =
+    c .turn-by2 .ensures
+    ∙ ap (λ v. turnBy (+ 3) (c .before .pair2 .result) v) (raised-is (c .before .before))
+    ∙ ap (λ p. turnBy (+ 3) p (raised (c .before .before .before .before))) (second-pair (c .before))
+
+-- ---- what each operation and call asks
+
+sub-pair : tie.Need-sub-pair
+sub-pair c = sub-ok (lit 0 tt) (declination-holds c) tt
+
+rem-pair : tie.Need-rem-pair
+rem-pair c = div-ok (negative-holds c) (lit circle tt) (ltZ-yes tt) tt
+
+rem-pair-2 : tie.Need-rem-pair-2
+rem-pair-2 c = div-ok (ra-holds (c .before .before)) (lit circle tt) (ltZ-yes tt) tt
+
+pair-requires : tie.Need-pair-requires
+pair-requires c κs = search needs
+
+pair-requires-2 : tie.Need-pair-requires-2
+pair-requires-2 c κs = search needs
+
+turn-by-requires : tie.Need-turn-by-requires
+turn-by-requires c κs =
+    let opposite = negℤ (c .before .args .declination) in
+    record { direction = ahead-accepted; pair = rw (first-pair c) (pair-length (remainder opposite)) }
+
 turn-by-requires-2 : tie.Need-turn-by-requires-2
 turn-by-requires-2 c κs =
     let start = c .before .before .before in
@@ -80,13 +89,6 @@ turn-by-requires-2 c κs =
       direction = rw (raised-is (c .before)) (raised-accepted start);
       pair = rw (second-pair c) (pair-length (remainder (start .args .ra)));
     }
-
-returns : tie.Need-returns
-unfolding directed
-returns c =
-    c .turn-by2 .ensures
-    ∙ ap (λ v. turnBy (+ 3) (c .before .pair2 .result) v) (raised-is (c .before .before))
-    ∙ ap (λ p. turnBy (+ 3) p (raised (c .before .before .before .before))) (second-pair (c .before))
 
 pub directed-spec : {M : Type 1} → statement M
 directed-spec =

@@ -15,17 +15,8 @@ use Rattle.laws.specs.Product.{motion-fits}
 use Rattle.catalogue.proofs.moved.Statement.{statement}
 use Rattle.catalogue.proofs.moved.Tie as tie
 
-cast-rnd-product-quotient : tie.Need-cast-rnd-product-quotient
-cast-rnd-product-quotient c = widened-ok (c .args .motion) (c .fits .motion)
-
 t-holds : (c : tie.Start) → Holds (bits (c .args .t .0)) (c .args .t .0) (2 ^ 42)
 t-holds c = arg (c .args .t .0) (omega (arith, c .pre .instant)) tt
-
-rnd-product-quotient-requires : tie.Need-rnd-product-quotient-requires
-rnd-product-quotient-requires c κs =
-    let start = c .before in
-    rw (t-holds start .value, widened (start .args .motion) (start .fits .motion) .value)
-    (motion-fits (start .args .t .0) (start .args .motion) (start .pre .instant) (start .pre .motion-le))
 
 -- what the motion comes to: at most a hundred times itself
 abbrev carried : tie.Start → ℤ
@@ -49,12 +40,21 @@ carried-holds c =
 angle-holds : (c : tie.Start) → Holds (bits (c .args .angle)) (c .args .angle) (2 ^ 41)
 angle-holds c = arg (c .args .angle) (c .pre .angle-le) tt
 
-add-result : tie.Need-add-result
-add-result c = add-ok (angle-holds (c .before .before)) (carried-holds c) tt
-
 returns : tie.Need-returns
 unfolding moved
 returns c = add (angle-holds (c .before .before)) (carried-holds c) tt .value
+
+cast-rnd-product-quotient : tie.Need-cast-rnd-product-quotient
+cast-rnd-product-quotient c = widened-ok (c .args .motion) (c .fits .motion)
+
+rnd-product-quotient-requires : tie.Need-rnd-product-quotient-requires
+rnd-product-quotient-requires c κs =
+    let start = c .before in
+    rw (t-holds start .value, widened (start .args .motion) (start .fits .motion) .value)
+    (motion-fits (start .args .t .0) (start .args .motion) (start .pre .instant) (start .pre .motion-le))
+
+add-result : tie.Need-add-result
+add-result c = add-ok (angle-holds (c .before .before)) (carried-holds c) tt
 
 pub moved-spec : {M : Type 1} → statement M
 moved-spec =

@@ -34,9 +34,6 @@ module _ (c : tie.Start) where
   rest : Holds (bits n %ʷ 10) (remZ n (pos 10)) 9
   rest = rw n-is (got {r = remZ n (pos 10)} refl (omega (arith, rest-is, small (natAbs n))) tt)
 
-rem-rest : tie.Need-rem-rest
-rem-rest c = (lit< tt, rw (n-is c) (quot-fits (n c) (pos 10) (c .fits .n) (ltZ-yes tt)))
-
 -- 48 and the size, by the sign
 plus : (z : ℤ) → ltZ z (pos 0) ≡ false → pos 48 +ℤ z ≡ pos (48 + natAbs z)
 plus (pos n) e = refl
@@ -47,23 +44,14 @@ minus (pos n) e = absurd (omega (arith, ltb-true n 0 e))
 minus (negsuc n) e = eq-of-parts (pos 48 -ℤ negsuc n) (pos (48 + natAbs (negsuc n)))
     (omega (arith, sub-is (pos 48) (negsuc n)))
 
-sub-result : tie.Need-sub-result
-sub-result c = sub-ok (lit 48 tt) (rest (c .before)) tt
-
 byte : (c : tie.Then1) → toZ w64 (48 -ʷ (bits (n (c .before)) %ʷ 10)) ≡ pos (48 + natAbs (n (c .before)) % 10)
 byte c =
     let s = c .before in
     let e : ltZ (remZ (n s) (pos 10)) (pos 0) ≡ true = rw (rest s .value) at (c .if1 .taken) in
     sub (lit 48 tt) (rest s) tt .value ∙ minus (remZ (n s) (pos 10)) e ∙ rw (rest-is s)
 
-cast-result : tie.Need-cast-result
-cast-result c = rw (byte c) (tt, record { fits = omega (arith, small (natAbs (n (c .before)))) })
-
 returns : tie.Need-returns
 returns c = rw (byte c)
-
-add-result : tie.Need-add-result
-add-result c = add-ok (lit 48 tt) (rest (c .before)) tt
 
 byte-2 : (c : tie.Else1) → toZ w64 (48 +ʷ (bits (n (c .before)) %ʷ 10)) ≡ pos (48 + natAbs (n (c .before)) % 10)
 byte-2 c =
@@ -71,11 +59,23 @@ byte-2 c =
     let e : ltZ (remZ (n s) (pos 10)) (pos 0) ≡ false = rw (rest s .value) at (c .if1 .left) in
     add (lit 48 tt) (rest s) tt .value ∙ plus (remZ (n s) (pos 10)) e ∙ rw (rest-is s)
 
-cast-result-2 : tie.Need-cast-result-2
-cast-result-2 c = rw (byte-2 c) (tt, record { fits = omega (arith, small (natAbs (n (c .before)))) })
-
 returns-2 : tie.Need-returns-2
 returns-2 c = rw (byte-2 c)
+
+rem-rest : tie.Need-rem-rest
+rem-rest c = (lit< tt, rw (n-is c) (quot-fits (n c) (pos 10) (c .fits .n) (ltZ-yes tt)))
+
+sub-result : tie.Need-sub-result
+sub-result c = sub-ok (lit 48 tt) (rest (c .before)) tt
+
+cast-result : tie.Need-cast-result
+cast-result c = rw (byte c) (tt, record { fits = omega (arith, small (natAbs (n (c .before)))) })
+
+add-result : tie.Need-add-result
+add-result c = add-ok (lit 48 tt) (rest (c .before)) tt
+
+cast-result-2 : tie.Need-cast-result-2
+cast-result-2 c = rw (byte-2 c) (tt, record { fits = omega (arith, small (natAbs (n (c .before)))) })
 
 pub last-digit-spec : {M : Type 1} → statement M
 last-digit-spec =

@@ -31,19 +31,10 @@ module _ (c : tie.Start) where
   width-le : law.width 18 (natAbs n) ≤ 19
   width-le = law.width-le 18 (natAbs n)
 
-width-requires : tie.Need-width-requires
-width-requires c κs = search needs
-
 width-is : (c : tie.After-width) → c .width .result ≡ law.width 18 (natAbs (n (c .before .before)))
 width-is c = rw (toZ-ofZ (c .before .before .fits .n)) at (c .width .ensures)
 
 -- ---- below nought
-
-slice-write-out : tie.Need-slice-write-out
-slice-write-out c = search needs
-
-add-put-digits : tie.Need-add-put-digits
-add-put-digits c = search needs
 
 module _ (c : tie.Then1) where
   abbrev start : tie.Start
@@ -58,21 +49,6 @@ module _ (c : tie.Then1) where
   decimal-is : decimal (n start) ≡ 45 ∷ digits start
   decimal-is = law.decimal-neg (n start) (enough start) (rw (toZ-ofZ (start .fits .n)) at (c .if1 .taken))
 
-put-digits-requires : tie.Need-put-digits-requires
-put-digits-requires c κs =
-    let a = c .before in
-    let s = start a in
-    omega (arith, width-is (a .before), width-le s, s .pre, length-set (room a) (at a) 45)
-
-add-result : tie.Need-add-result
-add-result c = search needs
-
-add-result-2 : tie.Need-add-result-2
-add-result-2 c =
-    let a = c .before .before .before .before in
-    let s = start a in
-    omega (arith, width-is (a .before), width-le s, s .pre)
-
 written : (c : tie.After-slice-known2)
     → let a = c .before .before .before .before in
     c .before .before .put-digits .last .1 .1 .1 .0 ≡ sets (room a) (at a) (decimal (n (start a)))
@@ -81,10 +57,6 @@ written c =
     let s = start a in
     rw (toZ-ofZ (s .fits .n), width-is (a .before), add-one (at a)) at (c .before .before .put-digits .ensures)
     ∙ rw (decimal-is a)
-
-same-length : tie.Need-same-length
-same-length c = let a = c .before .before .before .before in ap length (written c)
-    ∙ length-sets (room a) (at a) (decimal (n (start a)))
 
 returns : tie.Need-returns
 returns c =
@@ -101,6 +73,45 @@ module _ (c : tie.Else1) where
   decimal-is-2 : decimal (n start-2) ≡ digits start-2
   decimal-is-2 = law.decimal-pos (n start-2) (enough start-2) (rw (toZ-ofZ (start-2 .fits .n)) at (c .if1 .left))
 
+returns-2 : tie.Need-returns-2
+returns-2 c =
+    let a = c .before .before .before .before in
+    let s = start-2 a in (
+      omega (arith, width-is (a .before), ap length (decimal-is-2 a), digits-length s),
+      rw (toZ-ofZ (s .fits .n), width-is (a .before)) at (c .before .before .put-digits2 .ensures)
+          ∙ rw (decimal-is-2 a),
+    )
+
+-- ---- what each operation and call asks
+
+width-requires : tie.Need-width-requires
+width-requires c κs = search needs
+
+slice-write-out : tie.Need-slice-write-out
+slice-write-out c = search needs
+
+add-put-digits : tie.Need-add-put-digits
+add-put-digits c = search needs
+
+put-digits-requires : tie.Need-put-digits-requires
+put-digits-requires c κs =
+    let a = c .before in
+    let s = start a in
+    omega (arith, width-is (a .before), width-le s, s .pre, length-set (room a) (at a) 45)
+
+add-result : tie.Need-add-result
+add-result c = search needs
+
+add-result-2 : tie.Need-add-result-2
+add-result-2 c =
+    let a = c .before .before .before .before in
+    let s = start a in
+    omega (arith, width-is (a .before), width-le s, s .pre)
+
+same-length : tie.Need-same-length
+same-length c = let a = c .before .before .before .before in ap length (written c)
+    ∙ length-sets (room a) (at a) (decimal (n (start a)))
+
 put-digits-requires-2 : tie.Need-put-digits-requires-2
 put-digits-requires-2 c κs =
     let a = c .before in
@@ -115,15 +126,6 @@ add-result-3 c =
 
 same-length-2 : tie.Need-same-length-2
 same-length-2 c = search needs
-
-returns-2 : tie.Need-returns-2
-returns-2 c =
-    let a = c .before .before .before .before in
-    let s = start-2 a in (
-      omega (arith, width-is (a .before), ap length (decimal-is-2 a), digits-length s),
-      rw (toZ-ofZ (s .fits .n), width-is (a .before)) at (c .before .before .put-digits2 .ensures)
-          ∙ rw (decimal-is-2 a),
-    )
 
 pub put-spec : {M : Type 1} → statement M
 put-spec =

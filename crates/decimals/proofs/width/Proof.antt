@@ -26,9 +26,6 @@ Inv-loop n k₀ rest₀ k rest =
 abbrev μ-loop : tie.MeasureT-loop
 μ-loop n k₀ rest₀ k rest = 19 - k
 
-loop-holds : tie.Need-loop-holds Inv-loop μ-loop
-loop-holds c = ((omega arith, omega arith), (rw (toZ-ofZ (c .fits .n)) (c .fits .n), refl))
-
 -- a tenth of the rest
 module _ (c : tie.At-loop Inv-loop μ-loop) where
   abbrev rest : ℤ
@@ -36,9 +33,6 @@ module _ (c : tie.At-loop Inv-loop μ-loop) where
 
   tenth : SFits w64 (quotZ rest (pos 10))
   tenth = quot-fits rest (pos 10) (c .loop .inv .1 .0) (ltZ-yes tt)
-
-div-next : tie.Need-div-next Inv-loop μ-loop
-div-next c = (omega arith, tenth (c .before))
 
 of-nought : (z : ℤ) → SFits w64 z → ofZ w64 z ≡ 0 → natAbs z ≡ 0
 of-nought (pos n) f e = e
@@ -71,12 +65,6 @@ returns c =
     counted a (law.width-last (a .loop .k) (natAbs (rest a)) _ (omega arith)
     (omega (arith, abs-quot (rest a) (pos 10))) (a .loop .inv .1 .1))
 
-add-k : tie.Need-add-k Inv-loop μ-loop
-add-k c = omega arith
-
-loop-less : tie.Need-loop-less Inv-loop μ-loop
-loop-less c = omega arith
-
 loop-again : tie.Need-loop-again Inv-loop μ-loop
 loop-again c =
     let a = c .before .before in
@@ -92,6 +80,18 @@ returns-2 : tie.Need-returns-2 Inv-loop μ-loop
 returns-2 c =
     let a = c .before in
     counted a (law.width-end (a .loop .k) (natAbs (rest a)) _ (omega arith) (a .loop .inv .1 .1))
+
+loop-holds : tie.Need-loop-holds Inv-loop μ-loop
+loop-holds c = ((omega arith, omega arith), (rw (toZ-ofZ (c .fits .n)) (c .fits .n), refl))
+
+div-next : tie.Need-div-next Inv-loop μ-loop
+div-next c = (omega arith, tenth (c .before))
+
+add-k : tie.Need-add-k Inv-loop μ-loop
+add-k c = omega arith
+
+loop-less : tie.Need-loop-less Inv-loop μ-loop
+loop-less c = omega arith
 
 pub width-spec : {M : Type 1} → statement M
 width-spec =

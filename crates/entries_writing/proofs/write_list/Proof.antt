@@ -37,8 +37,8 @@ use denote.RattleType.{RattleType, owns}
 use denote.Shadow.{pureL}
 use denote.Laws.{Is, shows}
 use denote.Memory.{pointee, shares}
-use denote.Plain.{uint-makes, uint-lawful}
-use denote.Builtin.{u8, usize}
+use denote.Plain.{uint-makes, uint-lawful, bool-makes, bool-lawful}
+use denote.Builtin.{u8, usize, bool}
 use denote.Ref.{RefT}
 use denote.Slice.{sliceTy, sliceVal, MutSlice, ShrSlice, Room, at-slice, slice-vals, mut-slice-tells, shr-slice-tells}
 use denote.Slice.{shr-slice-copy}
@@ -67,7 +67,7 @@ use Rattle.writing_plan.specs.Plans.{writePlan, Ready}
 use Rattle.star_bytes.specs.Puts.{put}
 use Rattle.entries_writing.proofs.Again.{LentAgain, lends-again, comes-back}
 use Rattle.star_list.proofs.Lists.{snoc-length}
-use Rattle.entries_writing.proofs.Writing.{acceptedAll, putAll, taken-many, taken-next, write-within, write-long}
+use Rattle.entries_writing.proofs.Writing.{refusedAll, putAll, taken-many, taken-next, write-within, write-long}
 use Rattle.entries_writing.proofs.Writing.{write-ready, write-answer, write-after}
 use Rattle.rules.proofs.Entry as T
 use Rattle.rules.proofs.Entry.Laws as T′
@@ -75,10 +75,10 @@ use Rattle.star_file.proofs.Plan as P
 use Rattle.star_file.proofs.Plan.Laws as P′
 use Rattle.rules.proofs.Listed as L
 use Rattle.rules.proofs.Listed.Laws as L′
-use Rattle.entries_writing.proofs.accepted_entries as accepted
-use Rattle.entries_writing.proofs.accepted_entries.Symbol as accepted-def
-use Rattle.entries_writing.proofs.accepted_entries.Symbol.{name as #accepted-entries}
-use Rattle.entries_writing.proofs.accepted_entries.Met as accepted-thm
+use Rattle.entries_writing.proofs.any_refused as tested
+use Rattle.entries_writing.proofs.any_refused.Symbol as tested-def
+use Rattle.entries_writing.proofs.any_refused.Symbol.{name as #any-refused}
+use Rattle.entries_writing.proofs.any_refused.Met as tested-thm
 use Rattle.writing_plan.proofs.write_plan as plan
 use Rattle.writing_plan.proofs.write_plan.Symbol as plan-def
 use Rattle.writing_plan.proofs.write_plan.Symbol.{name as #write-plan}
@@ -128,7 +128,7 @@ function′ = record {
   outlives = [];
   params = 2;
   locals = local L′.mir valueLocal
-      ∷ local slice valueLocal ∷ local bytes valueLocal ∷ local word valueLocal ∷ local P′.mir valueLocal
+      ∷ local slice valueLocal ∷ local bytes valueLocal ∷ local tyBool valueLocal ∷ local P′.mir valueLocal
       ∷ local word valueLocal ∷ local word valueLocal ∷ local word valueLocal ∷ local word valueLocal
       ∷ local tyBool valueLocal ∷ local lent valueLocal ∷ local lent-bytes valueLocal ∷ local word valueLocal
       ∷ local tyPtr valueLocal ∷ local T′.mir valueLocal ∷ local lent valueLocal ∷ local lent-bytes valueLocal
@@ -144,8 +144,8 @@ stayed = (stay-none-slice (0 ∷ []) tt (plain (λ _. R)) yes, (stay-slice (1 �
 
 module _ {M : Type 1} (𝓤 : URA M) (H : Heap 𝓤) (A : Atoms 𝓤) (mem : Memory → SProp 𝓤) (run : Routine → Fun 𝓤) where
   -- the contracts that the proof cites, and of each callee's `ensured` the clause alone
-  abbrev Accepted : Contract 𝓤
-  Accepted = tripleOf 𝓤 H A accepted.signature (accepted.spec 𝓤 H A mem run)
+  abbrev Tested : Contract 𝓤
+  Tested = tripleOf 𝓤 H A tested.signature (tested.spec 𝓤 H A mem run)
 
   abbrev PlanOf : Contract 𝓤
   PlanOf = tripleOf 𝓤 H A plan.signature (plan.spec 𝓤 H A mem run)
@@ -156,13 +156,13 @@ module _ {M : Type 1} (𝓤 : URA M) (H : Heap 𝓤) (A : Atoms 𝓤) (mem : Mem
   abbrev Finish : Contract 𝓤
   Finish = tripleOf 𝓤 H A finish.signature (finish.spec 𝓤 H A mem run)
 
-  accepted-told : (κ : Lft) (x : RefT (List Entry)) (r : ℕ)
-      → ent 𝓤 (ensured 𝓤 H A accepted.ended (accepted.clauses 𝓤 H A mem run) (κ, tt) (x, tt) tt r)
-      (fact 𝓤 (r ≡ acceptedAll (x .now)))
-  accepted-told κ x r = exE 𝓤 _ (λ ws. snd∗ 𝓤 (sem 𝓤 H A (lasts accepted.ended (κ, tt) (x, tt) ws))
-      (fact 𝓤 (r ≡ acceptedAll (x .now))))
+  tested-told : (κ : Lft) (x : RefT (List Entry)) (r : Bool)
+      → ent 𝓤 (ensured 𝓤 H A tested.ended (tested.clauses 𝓤 H A mem run) (κ, tt) (x, tt) tt r)
+      (fact 𝓤 (r ≡ refusedAll (x .now)))
+  tested-told κ x r = exE 𝓤 _ (λ ws. snd∗ 𝓤 (sem 𝓤 H A (lasts tested.ended (κ, tt) (x, tt) ws))
+      (fact 𝓤 (r ≡ refusedAll (x .now))))
 
-  plan-told : (g k m : ℕ) (r : Plan) → ent 𝓤
+  plan-told : (g : Bool) (k m : ℕ) (r : Plan) → ent 𝓤
       (ensured 𝓤 H A plan.ended (plan.clauses 𝓤 H A mem run) tt (g, (k, (m, tt))) tt r) (fact 𝓤 (r ≡ writePlan g k m))
   plan-told g k m r = exE 𝓤 _ (λ ws. snd∗ 𝓤 (sem 𝓤 H A (lasts plan.ended tt (g, (k, (m, tt))) ws))
       (fact 𝓤 (r ≡ writePlan g k m)))
@@ -205,12 +205,12 @@ module _ {M : Type 1} (𝓤 : URA M) (H : Heap 𝓤) (A : Atoms 𝓤) (W : Given
   Post = walkOf 𝓤 H A write.ended stayed (write.clauses 𝓤 H A mem run) .post
       (((κ, (κ′, tt)), (q, (q′, tt)), tt, a, vals), tt)
 
-  abbrev to-accepted : Accepted 𝓤 H A mem run .Ghost
-  to-accepted = (((κ, tt), (q, tt), tt, (x, tt), (s ∷ [], tt)), tt)
+  abbrev to-tested : Tested 𝓤 H A mem run .Ghost
+  to-tested = (((κ, tt), (q, tt), tt, (x, tt), (s ∷ [], tt)), tt)
 
-  goes-accepted : ent 𝓤 (sep 𝓤 (A .lft κ q) (sem 𝓤 H A (ShrSlice (named 0) κ R .own x (s ∷ []))))
-      (Accepted 𝓤 H A mem run .pre to-accepted)
-  goes-accepted =
+  goes-tested : ent 𝓤 (sep 𝓤 (A .lft κ q) (sem 𝓤 H A (ShrSlice (named 0) κ R .own x (s ∷ []))))
+      (Tested 𝓤 H A mem run .pre to-tested)
+  goes-tested =
       qed W (‵ (flft κ q) ∷ ‵ (ShrSlice (named 0) κ R .own x (s ∷ [])) ∷ []) ∵ nothing ! $ move ! (1 ∷ 0 ∷ []) $
       join ! $ nothing ! $ move ! (2 ∷ 0 ∷ []) $ fjoin ! $ move ! (1 ∷ 0 ∷ []) $ join ! $ frame ! $ done !
 
@@ -220,8 +220,8 @@ module _ {M : Type 1} (𝓤 : URA M) (H : Heap 𝓤) (A : Atoms 𝓤) (W : Given
       tt,
       tt,
       tt,
-      (acceptedAll xs, (n, (m, tt))),
-      (vint w64 (acceptedAll xs) ∷ [], (vint w64 n ∷ [], (vint w64 m ∷ [], tt))),
+      (refusedAll xs, (n, (m, tt))),
+      (vbool (refusedAll xs) ∷ [], (vint w64 n ∷ [], (vint w64 m ∷ [], tt))),
     ),
     tt,
   )
@@ -250,7 +250,7 @@ module _ {M : Type 1} (𝓤 : URA M) (H : Heap 𝓤) (A : Atoms 𝓤) (W : Given
       fjoin ! $ move ! (1 ∷ 0 ∷ []) $ fjoin ! $ done !
 
   -- from here on the plan is known
-  module _ (p : Plan) (planned : p ≡ writePlan (acceptedAll xs) n m)
+  module _ (p : Plan) (planned : p ≡ writePlan (refusedAll xs) n m)
       (is-p : Is PR p (LL.vals P.the-type P′.the-laws p)) where
     abbrev pv : Val
     pv = LL.val P.the-type P′.the-laws p
@@ -309,7 +309,7 @@ module _ {M : Type 1} (𝓤 : URA M) (H : Heap 𝓤) (A : Atoms 𝓤) (W : Given
     Nearer-wf = InvImage·wf (λ (u : State). length (u .1 .0)) (Nat·lt-wfRel .wf)
 
     module _ (𝓣 : Tables 𝓤 H) (fm : FmC 𝓤 H (W .laws) (𝓣 .C))
-        (known-accepted : Triple 𝓤 (𝓣 .C #accepted-entries) (Accepted 𝓤 H A mem run))
+        (known-tested : Triple 𝓤 (𝓣 .C #any-refused) (Tested 𝓤 H A mem run))
         (known-plan : Triple 𝓤 (𝓣 .C #write-plan) (PlanOf 𝓤 H A mem run))
         (known-record′ : Triple 𝓤 (𝓣 .C #put-entry) (PutRecord 𝓤 H A mem run))
         (known-finish : Triple 𝓤 (𝓣 .C #finish) (Finish 𝓤 H A mem run)) (q″ : Share)
@@ -321,7 +321,7 @@ module _ {M : Type 1} (𝓤 : URA M) (H : Heap 𝓤) (A : Atoms 𝓤) (W : Given
       Λ = 𝓣 .Λ
 
       abbrev En : Env 𝓤 H
-      En = (L′.mir, l₀) ∷ (slice, l₁) ∷ (bytes, l₂) ∷ (word, l₃) ∷ (P′.mir, l₄) ∷ (word, l₅) ∷ (word, l₆) ∷ (word, l₇)
+      En = (L′.mir, l₀) ∷ (slice, l₁) ∷ (bytes, l₂) ∷ (tyBool, l₃) ∷ (P′.mir, l₄) ∷ (word, l₅) ∷ (word, l₆) ∷ (word, l₇)
           ∷ (word, l₈) ∷ (tyBool, l₉) ∷ (lent, l₁₀) ∷ (lent-bytes, l₁₁) ∷ (word, l₁₂) ∷ (tyPtr, l₁₃) ∷ (T′.mir, l₁₄)
           ∷ (lent, l₁₅) ∷ (lent-bytes, l₁₆) ∷ []
 
@@ -338,7 +338,7 @@ module _ {M : Type 1} (𝓤 : URA M) (H : Heap 𝓤) (A : Atoms 𝓤) (W : Given
           ∷ ‵ (fat fullShare P′.mir l₄ 0 pv)
           ∷ ‵ (fat fullShare slice l₁ 0 s)
           ∷ ‵ (fat fullShare bytes l₂ 0 sr)
-          ∷ ‵ (fat fullShare word l₃ 0 (vint w64 (acceptedAll xs)))
+          ∷ ‵ (fat fullShare tyBool l₃ 0 (vbool (refusedAll xs)))
           ∷ ‵ (fat fullShare word l₇ 0 (vint w64 n))
           ∷ ‵ (fat fullShare word l₈ 0 (vint w64 m))
           ∷ ‵ (froom lent l₁₅ 0)
@@ -351,7 +351,7 @@ module _ {M : Type 1} (𝓤 : URA M) (H : Heap 𝓤) (A : Atoms 𝓤) (W : Given
           ∷ ‵ (fdies L′.mir l₀)
           ∷ ‵ (fdies slice l₁)
           ∷ ‵ (fdies bytes l₂)
-          ∷ ‵ (fdies word l₃)
+          ∷ ‵ (fdies tyBool l₃)
           ∷ ‵ (fdies P′.mir l₄)
           ∷ ‵ (fdies word l₅)
           ∷ ‵ (fdies word l₆)
@@ -536,13 +536,13 @@ module _ {M : Type 1} (𝓤 : URA M) (H : Heap 𝓤) (A : Atoms 𝓤) (W : Given
           (λ u. ⋆ 𝓤 H A (At u)) (λ u. turns u .prf) ([], (ws, (bs, (refl, (refl, refl)))))
 
     module _ (𝓣 : Tables 𝓤 H) (fm : FmC 𝓤 H (W .laws) (𝓣 .C))
-        (known-accepted : Triple 𝓤 (𝓣 .C #accepted-entries) (Accepted 𝓤 H A mem run))
+        (known-tested : Triple 𝓤 (𝓣 .C #any-refused) (Tested 𝓤 H A mem run))
         (known-plan : Triple 𝓤 (𝓣 .C #write-plan) (PlanOf 𝓤 H A mem run))
         (known-record′ : Triple 𝓤 (𝓣 .C #put-entry) (PutRecord 𝓤 H A mem run))
         (known-finish : Triple 𝓤 (𝓣 .C #finish) (Finish 𝓤 H A mem run))
         (l₀ l₁ l₂ l₃ l₄ l₅ l₆ l₇ l₈ l₉ l₁₀ l₁₁ l₁₂ l₁₃ l₁₄ l₁₅ l₁₆ : ℕ) where
       abbrev Env₁ : Env 𝓤 H
-      Env₁ = (L′.mir, l₀) ∷ (slice, l₁) ∷ (bytes, l₂) ∷ (word, l₃) ∷ (P′.mir, l₄) ∷ (word, l₅) ∷ (word, l₆)
+      Env₁ = (L′.mir, l₀) ∷ (slice, l₁) ∷ (bytes, l₂) ∷ (tyBool, l₃) ∷ (P′.mir, l₄) ∷ (word, l₅) ∷ (word, l₆)
           ∷ (word, l₇) ∷ (word, l₈) ∷ (tyBool, l₉) ∷ (lent, l₁₀) ∷ (lent-bytes, l₁₁) ∷ (word, l₁₂) ∷ (tyPtr, l₁₃)
           ∷ (T′.mir, l₁₄) ∷ (lent, l₁₅) ∷ (lent-bytes, l₁₆) ∷ []
 
@@ -562,7 +562,7 @@ module _ {M : Type 1} (𝓤 : URA M) (H : Heap 𝓤) (A : Atoms 𝓤) (W : Given
           ∷ ‵ (fat fullShare P′.mir l₄ 0 pv)
           ∷ ‵ (fat fullShare slice l₁ 0 s)
           ∷ ‵ (fat fullShare bytes l₂ 0 sr)
-          ∷ ‵ (fat fullShare word l₃ 0 (vint w64 (acceptedAll xs)))
+          ∷ ‵ (fat fullShare tyBool l₃ 0 (vbool (refusedAll xs)))
           ∷ ‵ (fat fullShare word l₇ 0 (vint w64 n))
           ∷ ‵ (fat fullShare word l₈ 0 (vint w64 m))
           ∷ ‵ (froom lent l₁₅ 0)
@@ -571,7 +571,7 @@ module _ {M : Type 1} (𝓤 : URA M) (H : Heap 𝓤) (A : Atoms 𝓤) (W : Given
           ∷ ‵ (fdies L′.mir l₀)
           ∷ ‵ (fdies slice l₁)
           ∷ ‵ (fdies bytes l₂)
-          ∷ ‵ (fdies word l₃)
+          ∷ ‵ (fdies tyBool l₃)
           ∷ ‵ (fdies P′.mir l₄)
           ∷ ‵ (fdies word l₅)
           ∷ ‵ (fdies word l₆)
@@ -602,18 +602,18 @@ module _ {M : Type 1} (𝓤 : URA M) (H : Heap 𝓤) (A : Atoms 𝓤) (W : Given
           assigns ! (of-opd ! (lit ! tt)) (from ! (stop !)) (init ! 6 refl (tt, record { fits = lit< tt })) $
           keep ! (0 ∷ 6 ∷ 7 ∷ 8 ∷ 9 ∷ 10 ∷ 11 ∷ 12 ∷ 13 ∷ 14 ∷ 15 ∷ 16 ∷ 17 ∷ 18 ∷ 19 ∷ 20 ∷ 21 ∷ 22 ∷ 1 ∷ 3 ∷ 4 ∷ 5
           ∷ 23 ∷ 24 ∷ 25 ∷ 26 ∷ 27 ∷ 28 ∷ 29 ∷ 30 ∷ 31 ∷ 32 ∷ 33 ∷ 34 ∷ 35 ∷ 36 ∷ 37 ∷ 38 ∷ 39 ∷ []) $
-          by ! (loops-at 𝓣 fm known-accepted known-plan known-record′ known-finish q″ l₀ l₁ l₂ l₃ l₄ l₅ l₆ l₇ l₈ l₉
+          by ! (loops-at 𝓣 fm known-tested known-plan known-record′ known-finish q″ l₀ l₁ l₂ l₃ l₄ l₅ l₆ l₇ l₈ l₉
           l₁₀ l₁₁ l₁₂ l₁₃ l₁₄ l₁₅ l₁₆)))
 
   -- the call of `write_plan`
-  module _ (accepted-fits : acceptedAll xs < 2 ^ 64) (𝓣 : Tables 𝓤 H) (fm : FmC 𝓤 H (W .laws) (𝓣 .C))
-      (known-accepted : Triple 𝓤 (𝓣 .C #accepted-entries) (Accepted 𝓤 H A mem run))
+  module _ (𝓣 : Tables 𝓤 H) (fm : FmC 𝓤 H (W .laws) (𝓣 .C))
+      (known-tested : Triple 𝓤 (𝓣 .C #any-refused) (Tested 𝓤 H A mem run))
       (known-plan : Triple 𝓤 (𝓣 .C #write-plan) (PlanOf 𝓤 H A mem run))
       (known-record′ : Triple 𝓤 (𝓣 .C #put-entry) (PutRecord 𝓤 H A mem run))
       (known-finish : Triple 𝓤 (𝓣 .C #finish) (Finish 𝓤 H A mem run))
       (l₀ l₁ l₂ l₃ l₄ l₅ l₆ l₇ l₈ l₉ l₁₀ l₁₁ l₁₂ l₁₃ l₁₄ l₁₅ l₁₆ : ℕ) where
     abbrev Env₀ : Env 𝓤 H
-    Env₀ = (L′.mir, l₀) ∷ (slice, l₁) ∷ (bytes, l₂) ∷ (word, l₃) ∷ (P′.mir, l₄) ∷ (word, l₅) ∷ (word, l₆) ∷ (word, l₇)
+    Env₀ = (L′.mir, l₀) ∷ (slice, l₁) ∷ (bytes, l₂) ∷ (tyBool, l₃) ∷ (P′.mir, l₄) ∷ (word, l₅) ∷ (word, l₆) ∷ (word, l₇)
         ∷ (word, l₈) ∷ (tyBool, l₉) ∷ (lent, l₁₀) ∷ (lent-bytes, l₁₁) ∷ (word, l₁₂) ∷ (tyPtr, l₁₃) ∷ (T′.mir, l₁₄)
         ∷ (lent, l₁₅) ∷ (lent-bytes, l₁₆) ∷ []
 
@@ -621,7 +621,7 @@ module _ {M : Type 1} (𝓤 : URA M) (H : Heap 𝓤) (A : Atoms 𝓤) (W : Given
     goes-plan =
         qed W (‵ ftrue ∷ []) ∵ owned ! usize (Is usize) (uint-makes 𝓤 H A W w64) m _ (refl, bytes-room .0) $ fjoin ! $
         owned ! usize (Is usize) (uint-makes 𝓤 H A W w64) n _ (refl, room .0) $ fjoin ! $
-        owned ! usize (Is usize) (uint-makes 𝓤 H A W w64) (acceptedAll xs) _ (refl, accepted-fits) $ fjoin ! $
+        owned ! bool (Is bool) (bool-makes 𝓤 H A W) (refusedAll xs) _ refl $ fjoin ! $
         nothing ! $ join ! $ frame ! $ done !
 
     abbrev Counted : List (Item 𝓤)
@@ -640,7 +640,7 @@ module _ {M : Type 1} (𝓤 : URA M) (H : Heap 𝓤) (A : Atoms 𝓤) (W : Given
         ∷ ‵ (froom P′.mir l₄ 0)
         ∷ ‵ (fat fullShare slice l₁ 0 s)
         ∷ ‵ (fat fullShare bytes l₂ 0 sr)
-        ∷ ‵ (fat fullShare word l₃ 0 (vint w64 (acceptedAll xs)))
+        ∷ ‵ (fat fullShare tyBool l₃ 0 (vbool (refusedAll xs)))
         ∷ ‵ (froom word l₇ 0)
         ∷ ‵ (froom word l₈ 0)
         ∷ ‵ (froom lent l₁₅ 0)
@@ -649,7 +649,7 @@ module _ {M : Type 1} (𝓤 : URA M) (H : Heap 𝓤) (A : Atoms 𝓤) (W : Given
         ∷ ‵ (fdies L′.mir l₀)
         ∷ ‵ (fdies slice l₁)
         ∷ ‵ (fdies bytes l₂)
-        ∷ ‵ (fdies word l₃)
+        ∷ ‵ (fdies tyBool l₃)
         ∷ ‵ (fdies P′.mir l₄)
         ∷ ‵ (fdies word l₅)
         ∷ ‵ (fdies word l₆)
@@ -677,27 +677,27 @@ module _ {M : Type 1} (𝓤 : URA M) (H : Heap 𝓤) (A : Atoms 𝓤) (W : Given
         (and-then ! (load ! (from ! (stop !)) (look ! 17 refl))
         (and-then ! (load ! (from ! (stop !)) (look ! 18 refl)) (no-more !)))) (λ v.
         use1 W (later (some (λ (p : Plan). (‵ ftrue ⊛ ‵ (PR .own p (v ∷ [])))
-        ⊛ raw (ensured 𝓤 H A plan.ended (plan.clauses 𝓤 H A mem run) tt (acceptedAll xs, (n, (m, tt))) tt p))))
+        ⊛ raw (ensured 𝓤 H A plan.ended (plan.clauses 𝓤 H A mem run) tt (refusedAll xs, (n, (m, tt))) tt p))))
         (id⊢ 𝓤 _) $ await ! tt $ pick ! (λ p.
-        split ! $ move ! (1 ∷ []) $ use1 W (raw (fact 𝓤 (p ≡ writePlan (acceptedAll xs) n m)))
-        (plan-told 𝓤 H A mem run (acceptedAll xs) n m p) $
-        heard ! (p ≡ writePlan (acceptedAll xs) n m) (λ e₁. split ! $ drop ! $
+        split ! $ move ! (1 ∷ []) $ use1 W (raw (fact 𝓤 (p ≡ writePlan (refusedAll xs) n m)))
+        (plan-told 𝓤 H A mem run (refusedAll xs) n m p) $
+        heard ! (p ≡ writePlan (refusedAll xs) n m) (λ e₁. split ! $ drop ! $
         peeks ! PR (Is PR) (shows 𝓤 H A PR) p (v ∷ []) (λ is.
         let spelt : v ∷ [] ≡ LL.vals P.the-type P′.the-laws p = LL.tells P.the-type P′.the-laws p (v ∷ []) is in
         land ! (from ! (stop !)) (init ! 13 refl (LL.lawful P.the-type P′.the-laws 𝓤 H A W .typed p _ is .0)) $ drop ! $
         rewrite ! 12 (λ (u : Val). ‵ (fat fullShare P′.mir l₄ 0 u)) (ap only spelt) refl $
-        by ! (after-plan p e₁ (subst (Is PR p) spelt is) 𝓣 fm known-accepted known-plan known-record′ known-finish l₀
+        by ! (after-plan p e₁ (subst (Is PR p) spelt is) 𝓣 fm known-tested known-plan known-record′ known-finish l₀
         l₁ l₂ l₃ l₄ l₅ l₆ l₇ l₈ l₉ l₁₀ l₁₁ l₁₂ l₁₃ l₁₄ l₁₅ l₁₆)))))
 
-  -- the call of `accepted_entries`
+  -- the call of `any_refused`
   module _ (𝓣 : Tables 𝓤 H) (fm : FmC 𝓤 H (W .laws) (𝓣 .C))
-      (known-accepted : Triple 𝓤 (𝓣 .C #accepted-entries) (Accepted 𝓤 H A mem run))
+      (known-tested : Triple 𝓤 (𝓣 .C #any-refused) (Tested 𝓤 H A mem run))
       (known-plan : Triple 𝓤 (𝓣 .C #write-plan) (PlanOf 𝓤 H A mem run))
       (known-record′ : Triple 𝓤 (𝓣 .C #put-entry) (PutRecord 𝓤 H A mem run))
       (known-finish : Triple 𝓤 (𝓣 .C #finish) (Finish 𝓤 H A mem run))
       (l₀ l₁ l₂ l₃ l₄ l₅ l₆ l₇ l₈ l₉ l₁₀ l₁₁ l₁₂ l₁₃ l₁₄ l₁₅ l₁₆ : ℕ) where
     abbrev Env₂ : Env 𝓤 H
-    Env₂ = (L′.mir, l₀) ∷ (slice, l₁) ∷ (bytes, l₂) ∷ (word, l₃) ∷ (P′.mir, l₄) ∷ (word, l₅) ∷ (word, l₆) ∷ (word, l₇)
+    Env₂ = (L′.mir, l₀) ∷ (slice, l₁) ∷ (bytes, l₂) ∷ (tyBool, l₃) ∷ (P′.mir, l₄) ∷ (word, l₅) ∷ (word, l₆) ∷ (word, l₇)
         ∷ (word, l₈) ∷ (tyBool, l₉) ∷ (lent, l₁₀) ∷ (lent-bytes, l₁₁) ∷ (word, l₁₂) ∷ (tyPtr, l₁₃) ∷ (T′.mir, l₁₄)
         ∷ (lent, l₁₅) ∷ (lent-bytes, l₁₆) ∷ []
 
@@ -728,8 +728,8 @@ module _ {M : Type 1} (𝓤 : URA M) (H : Heap 𝓤) (A : Atoms 𝓤) (W : Given
         ∷ ‵ (fdies word l₅)
         ∷ ‵ (froom P′.mir l₄ 0)
         ∷ ‵ (fdies P′.mir l₄)
-        ∷ ‵ (froom word l₃ 0)
-        ∷ ‵ (fdies word l₃)
+        ∷ ‵ (froom tyBool l₃ 0)
+        ∷ ‵ (fdies tyBool l₃)
         ∷ ‵ (fat fullShare bytes l₂ 0 sr)
         ∷ ‵ (fdies bytes l₂)
         ∷ ‵ (fat fullShare slice l₁ 0 s)
@@ -746,30 +746,30 @@ module _ {M : Type 1} (𝓤 : URA M) (H : Heap 𝓤) (A : Atoms 𝓤) (W : Given
         split ! $
         move ! (5 ∷ []) $ use1 W (‵ (ShrSlice (named 0) κ R .own x (s ∷ []))
         ⊛ ‵ (ShrSlice (named 0) κ R .own x (s ∷ []))) (shr-slice-copy 𝓤 H A W (named 0) κ R .twice x (s ∷ [])) $
-        split ! $ move ! (4 ∷ 1 ∷ []) $ use2 W (raw (Accepted 𝓤 H A mem run .pre to-accepted)) goes-accepted $
-        calls-at ! fm (Accepted 𝓤 H A mem run) known-accepted to-accepted
+        split ! $ move ! (4 ∷ 1 ∷ []) $ use2 W (raw (Tested 𝓤 H A mem run .pre to-tested)) goes-tested $
+        calls-at ! fm (Tested 𝓤 H A mem run) known-tested to-tested
         (and-then ! (load ! (from ! (stop !)) (look ! 36 refl)) (no-more !)) (λ v.
-        use1 W (later (some (λ (r : ℕ). ((‵ (flft κ q) ⊛ ‵ ftrue) ⊛ ‵ (usize .own r (v ∷ [])))
-        ⊛ raw (ensured 𝓤 H A accepted.ended (accepted.clauses 𝓤 H A mem run) (κ, tt) (x, tt) tt r)))) (id⊢ 𝓤 _) $
+        use1 W (later (some (λ (r : Bool). ((‵ (flft κ q) ⊛ ‵ ftrue) ⊛ ‵ (bool .own r (v ∷ [])))
+        ⊛ raw (ensured 𝓤 H A tested.ended (tested.clauses 𝓤 H A mem run) (κ, tt) (x, tt) tt r)))) (id⊢ 𝓤 _) $
         await ! tt $ pick ! (λ r.
-        split ! $ move ! (1 ∷ []) $ use1 W (raw (fact 𝓤 (r ≡ acceptedAll xs))) (accepted-told 𝓤 H A mem run κ x r) $
-        heard ! (r ≡ acceptedAll xs) (λ e₁. split ! $ move ! (1 ∷ []) $
-        peeks ! usize (Is usize) (shows 𝓤 H A usize) r (v ∷ []) (λ is.
-        land ! (from ! (stop !)) (init ! 33 refl (uint-lawful 𝓤 H A W w64 .typed r _ is .0)) $ drop ! $ split ! $
-        rewrite ! 33 (λ (w : Val). ‵ (fat fullShare word l₃ 0 w)) (ap only (is .0)) refl $
-        rewrite ! 33 (λ (k : ℕ). ‵ (fat fullShare word l₃ 0 (vint w64 k))) e₁ refl $
+        split ! $ move ! (1 ∷ []) $ use1 W (raw (fact 𝓤 (r ≡ refusedAll xs))) (tested-told 𝓤 H A mem run κ x r) $
+        heard ! (r ≡ refusedAll xs) (λ e₁. split ! $ move ! (1 ∷ []) $
+        peeks ! bool (Is bool) (shows 𝓤 H A bool) r (v ∷ []) (λ is.
+        land ! (from ! (stop !)) (init ! 33 refl (bool-lawful 𝓤 H A W .typed r _ is .0)) $ drop ! $ split ! $
+        rewrite ! 33 (λ (w : Val). ‵ (fat fullShare tyBool l₃ 0 w)) (ap only is) refl $
+        rewrite ! 33 (λ (t : Bool). ‵ (fat fullShare tyBool l₃ 0 (vbool t))) e₁ refl $
         keep ! (0 ∷ 2 ∷ 5 ∷ 3 ∷ 27 ∷ 21 ∷ 19 ∷ 17 ∷ 15 ∷ 13 ∷ 11 ∷ 29 ∷ 31 ∷ 37 ∷ 35 ∷ 33 ∷ 25 ∷ 23 ∷ 9 ∷ 7 ∷ 39 ∷ 40
         ∷ 38 ∷ 36 ∷ 34 ∷ 32 ∷ 30 ∷ 28 ∷ 26 ∷ 24 ∷ 22 ∷ 20 ∷ 18 ∷ 16 ∷ 14 ∷ 12 ∷ 10 ∷ 8 ∷ []) $
-        by ! (before-plan (subst (λ (k : ℕ). k < 2 ^ 64) e₁ (is .1)) 𝓣 fm known-accepted known-plan known-record′
-        known-finish l₀ l₁ l₂ l₃ l₄ l₅ l₆ l₇ l₈ l₉ l₁₀ l₁₁ l₁₂ l₁₃ l₁₄ l₁₅ l₁₆)))))
+        by ! (before-plan 𝓣 fm known-tested known-plan known-record′ known-finish l₀ l₁ l₂ l₃ l₄ l₅ l₆ l₇
+        l₈ l₉ l₁₀ l₁₁ l₁₂ l₁₃ l₁₄ l₁₅ l₁₆)))))
 
   -- the parameters are passed
-  walk′ : (𝓣 : Tables 𝓤 H) (fm : FmC 𝓤 H (W .laws) (𝓣 .C)) → Triple 𝓤 (𝓣 .C #accepted-entries) (Accepted 𝓤 H A mem run)
+  walk′ : (𝓣 : Tables 𝓤 H) (fm : FmC 𝓤 H (W .laws) (𝓣 .C)) → Triple 𝓤 (𝓣 .C #any-refused) (Tested 𝓤 H A mem run)
       → Triple 𝓤 (𝓣 .C #write-plan) (PlanOf 𝓤 H A mem run) → Triple 𝓤 (𝓣 .C #put-entry) (PutRecord 𝓤 H A mem run)
       → Triple 𝓤 (𝓣 .C #finish) (Finish 𝓤 H A mem run)
       → ent 𝓤 (onEntry 𝓤 H A write.signature (κ, (κ′, tt)) (q, (q′, tt)) a vals)
       (WpFn 𝓤 H (𝓣 .C) (𝓣 .Λ) function′ (s ∷ sr ∷ []) Post)
-  walk′ 𝓣 fm known-accepted known-plan known-record′ known-finish =
+  walk′ 𝓣 fm known-tested known-plan known-record′ known-finish =
       qed W ((‵ (flft κ q) ⊛ ‵ (flft κ′ q′) ⊛ ‵ ftrue)
       ∷ ‵ (owns (ShrSlice (named 0) κ R ∷ MutSlice (named 1) κ′ u8 ∷ []) a vals) ∷ []) ∵ enter ! (𝓣 .C)
       (𝓣 .Λ) function′ (s ∷ sr ∷ []) _ $
@@ -781,46 +781,46 @@ module _ {M : Type 1} (𝓤 : URA M) (H : Heap 𝓤) (A : Atoms 𝓤) (W : Given
       (λ l₁₄. alloc1 ! (λ l₁₅. alloc1 ! (λ l₁₆. alloc0 ! $ params1 ! $
       pass1 ! (init ! 30 refl (tt, (tt, (record { fits = room .0 }, tt)))) $
       pass1 ! (init ! 28 refl (tt, (tt, (record { fits = bytes-room .0 }, tt)))) $ pass0 ! $
-      by ! (opening 𝓣 fm known-accepted known-plan known-record′ known-finish l₀ l₁ l₂ l₃ l₄ l₅ l₆ l₇ l₈ l₉ l₁₀ l₁₁ l₁₂
+      by ! (opening 𝓣 fm known-tested known-plan known-record′ known-finish l₀ l₁ l₂ l₃ l₄ l₅ l₆ l₇ l₈ l₉ l₁₀ l₁₁ l₁₂
       l₁₃ l₁₄ l₁₅ l₁₆))))))))))))))))))
 
-  walk : (𝓣 : Tables 𝓤 H) (fm : FmC 𝓤 H (W .laws) (𝓣 .C)) → Triple 𝓤 (𝓣 .C #accepted-entries) (Accepted 𝓤 H A mem run)
+  walk : (𝓣 : Tables 𝓤 H) (fm : FmC 𝓤 H (W .laws) (𝓣 .C)) → Triple 𝓤 (𝓣 .C #any-refused) (Tested 𝓤 H A mem run)
       → Triple 𝓤 (𝓣 .C #write-plan) (PlanOf 𝓤 H A mem run) → Triple 𝓤 (𝓣 .C #put-entry) (PutRecord 𝓤 H A mem run)
       → Triple 𝓤 (𝓣 .C #finish) (Finish 𝓤 H A mem run)
       → ent 𝓤 (onEntry 𝓤 H A write.signature (κ, (κ′, tt)) (q, (q′, tt)) a vals)
       (WpFn 𝓤 H (𝓣 .C) (𝓣 .Λ) code.function (s ∷ sr ∷ []) Post)
-  walk 𝓣 fm known-accepted known-plan known-record′ known-finish =
+  walk 𝓣 fm known-tested known-plan known-record′ known-finish =
       subst (λ (g : Fn). ent 𝓤 (onEntry 𝓤 H A write.signature (κ, (κ′, tt)) (q, (q′, tt)) a vals)
       (WpFn 𝓤 H (𝓣 .C) (𝓣 .Λ) g (s ∷ sr ∷ []) Post)) same-function
-      (walk′ 𝓣 fm known-accepted known-plan known-record′ known-finish)
+      (walk′ 𝓣 fm known-tested known-plan known-record′ known-finish)
 
 module _ {M : Type 1} (𝓤 : URA M) (H : Heap 𝓤) (A : Atoms 𝓤) (W : Given 𝓤 H A) (mem : Memory → SProp 𝓤)
     (run : Routine → Fun 𝓤) where
   write-walks : (𝓣 : Tables 𝓤 H) → FmC 𝓤 H (W .laws) (𝓣 .C)
-      → Triple 𝓤 (𝓣 .C #accepted-entries) (Accepted 𝓤 H A mem run) → Triple 𝓤 (𝓣 .C #write-plan) (PlanOf 𝓤 H A mem run)
+      → Triple 𝓤 (𝓣 .C #any-refused) (Tested 𝓤 H A mem run) → Triple 𝓤 (𝓣 .C #write-plan) (PlanOf 𝓤 H A mem run)
       → Triple 𝓤 (𝓣 .C #put-entry) (PutRecord 𝓤 H A mem run) → Triple 𝓤 (𝓣 .C #finish) (Finish 𝓤 H A mem run)
       → Walks 𝓤 H A write.ended stayed (WpFn 𝓤 H (𝓣 .C) (𝓣 .Λ) code.function) (write.clauses 𝓤 H A mem run)
-  write-walks 𝓣 fm known-accepted known-plan known-record′ known-finish = walked 𝓤 H A write.ended stayed
+  write-walks 𝓣 fm known-tested known-plan known-record′ known-finish = walked 𝓤 H A write.ended stayed
       (write.clauses 𝓤 H A mem run) (WpFn 𝓤 H (𝓣 .C) (𝓣 .Λ) code.function)
       (λ κs. (slice-vals, (slice-vals, tt))) (λ κs.
       (shr-slice-tells (named 0) (κs .0) R, (mut-slice-tells (named 1) (κs .1 .0) u8, tt)))
       (λ κs qs bounds a g are. via 𝓤 _ (fst∗ 𝓤 _ (emp 𝓤))
       (walk 𝓤 H A W mem run (κs .0) (κs .1 .0) (qs .0) (qs .1 .0) (a .0 .ptr .0) (a .0 .ptr .1) (a .0 .name)
       (a .0 .now) (are .0 .0 .1) (a .1 .0 .ptr .0) (a .1 .0 .ptr .1) (a .1 .0 .name) (a .1 .0 .now)
-      (are .1 .0 .0 .1) 𝓣 fm known-accepted known-plan known-record′ known-finish))
+      (are .1 .0 .0 .1) 𝓣 fm known-tested known-plan known-record′ known-finish))
 
 write-meets : {M : Type 1} (𝓤 : URA M) (H : Heap 𝓤) (A : Atoms 𝓤) (W : Given 𝓤 H A) (mem : Memory → SProp 𝓤)
     (run : Routine → Fun 𝓤) (𝓣 : Tables 𝓤 H)
-    → Triple 𝓤 (𝓣 .C #accepted-entries) (Accepted 𝓤 H A mem run) → Triple 𝓤 (𝓣 .C #write-plan) (PlanOf 𝓤 H A mem run)
+    → Triple 𝓤 (𝓣 .C #any-refused) (Tested 𝓤 H A mem run) → Triple 𝓤 (𝓣 .C #write-plan) (PlanOf 𝓤 H A mem run)
     → Triple 𝓤 (𝓣 .C #put-entry) (PutRecord 𝓤 H A mem run) → Triple 𝓤 (𝓣 .C #finish) (Finish 𝓤 H A mem run)
     → Meets 𝓤 H A write.signature (WpFn 𝓤 H (𝓣 .C) (𝓣 .Λ) code.function) (write.spec 𝓤 H A mem run)
-write-meets 𝓤 H A W mem run 𝓣 known-accepted known-plan known-record′ known-finish =
+write-meets 𝓤 H A W mem run 𝓣 known-tested known-plan known-record′ known-finish =
     walk-meets 𝓤 H A write.ended stayed W (
       goes-none-slice 𝓤 H A W 2 (0 ∷ []) tt (plain (λ _. R)) yes,
       (goes-slice 𝓤 H A W 2 1 tt (plain (λ _. u8)), tt),
     ) (write.clauses 𝓤 H A mem run)
     (WpFn 𝓤 H (𝓣 .C) (𝓣 .Λ) code.function) (WpFn-mono 𝓤 H (W .laws) 𝓣 code.function)
-    (write-walks 𝓤 H A W mem run 𝓣 (fmOf 𝓤 H (W .laws) 𝓣) known-accepted known-plan known-record′ known-finish)
+    (write-walks 𝓤 H A W mem run 𝓣 (fmOf 𝓤 H (W .laws) 𝓣) known-tested known-plan known-record′ known-finish)
 
 pub write-list-spec : {M : Type 1} → stated.statement M
 unfolding code.routine tablesOf
@@ -828,8 +828,8 @@ write-list-spec 𝓤 H 𝓜 𝓖 𝓡 =
     entered 𝓤 H (tripleOf 𝓤 H (𝓖 .A) write.signature (write.spec 𝓤 H (𝓖 .A) (𝓜 .mem) (𝓡 .run)))
     (tables 𝓤 H 𝓜 𝓡 code.env .C) (tables 𝓤 H 𝓜 𝓡 code.env .Λ) #write-list code.function (code.unfolded 𝓤 H 𝓜 𝓡)
     (write-meets 𝓤 H (𝓖 .A) (givenOf 𝓤 H 𝓜 𝓖) (𝓜 .mem) (𝓡 .run) (tablesOf 𝓤 H 𝓜 (tables 𝓤 H 𝓜 𝓡 code.env))
-    (cited 𝓤 H (Accepted 𝓤 H (𝓖 .A) (𝓜 .mem) (𝓡 .run)) 𝓜 𝓡 code.env #accepted-entries accepted-def.routine
-    code.calls-entries-writing·accepted-entries (accepted-thm.met 𝓤 H 𝓜 𝓖 𝓡))
+    (cited 𝓤 H (Tested 𝓤 H (𝓖 .A) (𝓜 .mem) (𝓡 .run)) 𝓜 𝓡 code.env #any-refused tested-def.routine
+    code.calls-entries-writing·any-refused (tested-thm.met 𝓤 H 𝓜 𝓖 𝓡))
     (cited 𝓤 H (PlanOf 𝓤 H (𝓖 .A) (𝓜 .mem) (𝓡 .run)) 𝓜 𝓡 code.env #write-plan plan-def.routine
     code.calls-writing-plan·write-plan (plan-thm.met 𝓤 H 𝓜 𝓖 𝓡))
     (cited 𝓤 H (PutRecord 𝓤 H (𝓖 .A) (𝓜 .mem) (𝓡 .run)) 𝓜 𝓡 code.env #put-entry record′-def.routine

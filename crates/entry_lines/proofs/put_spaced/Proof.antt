@@ -12,6 +12,19 @@ use Rattle.sexagesimal.specs.Sexagesimal.{spaced}
 use Rattle.entry_lines.proofs.put_spaced.Statement.{statement}
 use Rattle.entry_lines.proofs.put_spaced.Tie as tie
 
+module _ (c : tie.After-put) where
+  abbrev start : tie.Start
+  start = c .before .before .before
+
+  bytes : c .put .last .1 .1 .0 ≡ sets (start .args .out .now) (start .args .at) (spaced (decimal (start .args .n)))
+  bytes = rw (toZ-ofZ (start .fits .n), add-one (start .args .at)) at (c .put .ensures .1)
+
+  end : c .put .result ≡ (start .args .at + 1) + length (decimal (start .args .n))
+  end = rw (toZ-ofZ (start .fits .n)) at (c .put .ensures .0)
+
+returns : tie.Need-returns
+returns c = let x = c .before .before in (omega (arith, end x), bytes x)
+
 slice-write-out : tie.Need-slice-write-out
 slice-write-out c = search needs
 
@@ -23,24 +36,11 @@ put-requires c κs =
     let s = c .before .before in
     omega (arith, s .pre, length-set (s .args .out .now) (s .args .at) 32)
 
-module _ (c : tie.After-put) where
-  abbrev start : tie.Start
-  start = c .before .before .before
-
-  bytes : c .put .last .1 .1 .0 ≡ sets (start .args .out .now) (start .args .at) (spaced (decimal (start .args .n)))
-  bytes = rw (toZ-ofZ (start .fits .n), add-one (start .args .at)) at (c .put .ensures .1)
-
-  end : c .put .result ≡ (start .args .at + 1) + length (decimal (start .args .n))
-  end = rw (toZ-ofZ (start .fits .n)) at (c .put .ensures .0)
-
 same-length : tie.Need-same-length
 same-length c =
     let x = c .before .before in
     let s = start x in
     ap length (bytes x) ∙ length-sets (s .args .out .now) (s .args .at) (spaced (decimal (s .args .n)))
-
-returns : tie.Need-returns
-returns c = let x = c .before .before in (omega (arith, end x), bytes x)
 
 pub put-spaced-spec : {M : Type 1} → statement M
 put-spaced-spec =

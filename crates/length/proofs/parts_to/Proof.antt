@@ -71,7 +71,7 @@ returns c =
     let y-is =
     held64 (second .result) (second .ok) ∙ rw (y-holds b .value, length-holds b .value) at (second .ensures) in
     let z-is = held64 (third .result) (third .ok) ∙ rw (z-holds b .value, length-holds b .value) at (third .ensures) in
-    rw (x-is, y-is, z-is)
+    λ i. record { x = x-is i; y = y-is i; z = z-is i }
 
 pub parts-to-spec : {M : Type 1} → statement M
 parts-to-spec = tie.close (tie.spec part-to-requires part-to-requires-2 part-to-requires-3 returns)

@@ -11,12 +11,6 @@ use Rattle.laws.specs.Night.{scaled-le, sidereal-le}
 use Rattle.night_parts.proofs.sidereal_pair.Statement.{statement}
 use Rattle.night_parts.proofs.sidereal_pair.Tie as tie
 
-sidereal-of-requires : tie.Need-sidereal-of-requires
-sidereal-of-requires c κs = search needs
-
-scaled-requires : tie.Need-scaled-requires
-scaled-requires c κs = search needs
-
 nutation-holds : (c : tie.Start) → Holds (bits (c .args .nutation)) (c .args .nutation) (2 ^ 31)
 nutation-holds c = arg (c .args .nutation) (c .pre .nutation-le) tt
 
@@ -51,6 +45,17 @@ local-holds : (c : tie.After-scaled)
 local-holds c =
     add (add (sidereal-holds (c .before)) (equinoxes-hold c) tt) (longitude-holds (c .before .before)) tt
 
+returns : tie.Need-returns
+unfolding remainder
+returns c =
+    rw (rem (negate (local-holds (c .before)) tt) (lit circle tt) (ltZ-yes tt) tt .value) at (c .pair .ensures)
+
+sidereal-of-requires : tie.Need-sidereal-of-requires
+sidereal-of-requires c κs = search needs
+
+scaled-requires : tie.Need-scaled-requires
+scaled-requires c κs = search needs
+
 add-local : tie.Need-add-local
 add-local c = add-ok (sidereal-holds (c .before)) (equinoxes-hold c) tt
 
@@ -66,11 +71,6 @@ rem-pair c = div-ok (negate (local-holds c) tt) (lit circle tt) (ltZ-yes tt) tt
 
 pair-requires : tie.Need-pair-requires
 pair-requires c κs = search needs
-
-returns : tie.Need-returns
-unfolding remainder
-returns c =
-    rw (rem (negate (local-holds (c .before)) tt) (lit circle tt) (ltZ-yes tt) tt .value) at (c .pair .ensures)
 
 pub sidereal-pair-spec : {M : Type 1} → statement M
 sidereal-pair-spec =

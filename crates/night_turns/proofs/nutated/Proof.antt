@@ -23,6 +23,13 @@ second-accepted : (c : tie.Start) → Accepted (squares (second c))
 second-accepted c =
     turnBy-accepted (+ 3) (c .args .n .longitude) (first c) (c .pre .night .longitude) (first-accepted c)
 
+second-is : (c : tie.After-turn-by2) → c .turn-by2 .result ≡ second (c .before .before .before .before .before)
+second-is c = c .turn-by2 .ensures ∙ ap (turnBy (+ 3) _) (c .before .turn-by .ensures)
+
+returns : tie.Need-returns
+unfolding nutated
+returns c = c .turn-by3 .ensures ∙ ap (turnBy (+ 1) _) (second-is (c .before))
+
 turn-by-requires : tie.Need-turn-by-requires
 turn-by-requires c κs =
     let start = c .before .before .before in
@@ -33,17 +40,10 @@ turn-by-requires-2 c κs =
     let start = c .before .before .before .before in
     record { direction = rw (c .turn-by .ensures) (first-accepted start); pair = start .pre .night .longitude }
 
-second-is : (c : tie.After-turn-by2) → c .turn-by2 .result ≡ second (c .before .before .before .before .before)
-second-is c = c .turn-by2 .ensures ∙ ap (turnBy (+ 3) _) (c .before .turn-by .ensures)
-
 turn-by-requires-3 : tie.Need-turn-by-requires-3
 turn-by-requires-3 c κs =
     let start = c .before .before .before .before .before in
     record { direction = rw (second-is c) (second-accepted start); pair = start .pre .night .obliquity }
-
-returns : tie.Need-returns
-unfolding nutated
-returns c = c .turn-by3 .ensures ∙ ap (turnBy (+ 1) _) (second-is (c .before))
 
 pub nutated-spec : {M : Type 1} → statement M
 nutated-spec =

@@ -7,6 +7,10 @@ use Rattle.laws.specs.Turning.{turnBy-accepted}
 use Rattle.night_turns.proofs.overhead.Statement.{statement}
 use Rattle.night_turns.proofs.overhead.Tie as tie
 
+returns : tie.Need-returns
+unfolding overhead
+returns c = c .turn-by2 .ensures ∙ ap (turnBy (+ 2) _) (c .before .turn-by .ensures)
+
 turn-by-requires : tie.Need-turn-by-requires
 turn-by-requires c κs =
     let start = c .before .before in
@@ -21,10 +25,6 @@ turn-by-requires-2 c κs =
           (start .pre .direction));
       pair = start .pre .night .latitude;
     }
-
-returns : tie.Need-returns
-unfolding overhead
-returns c = c .turn-by2 .ensures ∙ ap (turnBy (+ 2) _) (c .before .turn-by .ensures)
 
 pub overhead-spec : {M : Type 1} → statement M
 overhead-spec = tie.close (tie.spec turn-by-requires turn-by-requires-2 returns)

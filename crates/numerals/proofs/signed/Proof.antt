@@ -16,33 +16,14 @@ use Rattle.laws.specs.Lines.{negative-length, to-end, unsigned-is, most, most-l
 use Rattle.numerals.proofs.signed.Statement.{statement}
 use Rattle.numerals.proofs.signed.Tie as tie
 
-negative-requires : tie.Need-negative-requires
-negative-requires c κs = search needs
-
 minus : (c : tie.After-negative) (b : Bool) → c .negative .result ≡ b → negative (c .before .before .args .s .now) ≡ b
 minus c b e = sym (c .negative .ensures) ∙ e
 
 long : (c : tie.Then1) → 1 ≤ length (c .before .before .before .args .s .now)
 long c = negative-length _ (minus (c .before) true (c .if1 .taken))
 
-sub-spelled : tie.Need-sub-spelled
-sub-spelled c = long c
-
-part-spelled-start : tie.Need-part-spelled-start
-part-spelled-start c = long c
-
-part-spelled-end : tie.Need-part-spelled-end
-part-spelled-end c = search needs
-
 unsigned-le : (c : tie.Start) → length (unsigned (c .args .s .now)) ≤ 12
 unsigned-le c = c .pre
-
-spelled-requires : tie.Need-spelled-requires
-spelled-requires c κs =
-    let a = c .before in
-    let s = a .before .before .before in
-    rw (to-end (s .args .s .now) 1, ← unsigned-is (s .args .s .now) true (minus (a .before) true (a .if1 .taken)))
-    (unsigned-le s)
 
 module _ (c : tie.After-spelled) where
   abbrev bytes : List ℕ
@@ -67,9 +48,6 @@ module _ (c : tie.After-spelled) where
   size : Holds (bits (c .spelled .result)) (pos (spelled 0 (unsigned bytes))) (2 ^ 45)
   size = got (told .0) size-le tt
 
-sub-result : tie.Need-sub-result
-sub-result c = negate-ok (size c) tt
-
 returns : tie.Need-returns
 unfolding signed
 returns c =
@@ -77,11 +55,6 @@ returns c =
       refl,
       omega (arith, abs-neg (pos (spelled 0 (unsigned (bytes c)))), ap natAbs (told c .0), told c .1),
     )
-
-spelled-requires-2 : tie.Need-spelled-requires-2
-spelled-requires-2 c κs =
-    let s = c .before .before .before in
-    rw (← unsigned-is (s .args .s .now) false (minus (c .before) false (c .if1 .left))) (unsigned-le s)
 
 returns-2 : tie.Need-returns-2
 unfolding signed
@@ -91,6 +64,33 @@ returns-2 c =
     let m = minus (a .before) false (a .if1 .left) in
     let f = toZ-ofZ {w = w64} {z = c .spelled2 .result} (sfits-of (c .spelled2 .ok)) in
     rw (f, m, unsigned-is (s .args .s .now) false m) (c .spelled2 .ensures)
+
+negative-requires : tie.Need-negative-requires
+negative-requires c κs = search needs
+
+sub-spelled : tie.Need-sub-spelled
+sub-spelled c = long c
+
+part-spelled-start : tie.Need-part-spelled-start
+part-spelled-start c = long c
+
+part-spelled-end : tie.Need-part-spelled-end
+part-spelled-end c = search needs
+
+spelled-requires : tie.Need-spelled-requires
+spelled-requires c κs =
+    let a = c .before in
+    let s = a .before .before .before in
+    rw (to-end (s .args .s .now) 1, ← unsigned-is (s .args .s .now) true (minus (a .before) true (a .if1 .taken)))
+    (unsigned-le s)
+
+sub-result : tie.Need-sub-result
+sub-result c = negate-ok (size c) tt
+
+spelled-requires-2 : tie.Need-spelled-requires-2
+spelled-requires-2 c κs =
+    let s = c .before .before .before in
+    rw (← unsigned-is (s .args .s .now) false (minus (c .before) false (c .if1 .left))) (unsigned-le s)
 
 pub signed-spec : {M : Type 1} → statement M
 signed-spec =

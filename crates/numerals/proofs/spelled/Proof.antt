@@ -19,22 +19,10 @@ Inv-loop s n₀ i₀ n i = (i ≤ length s) × ((n ≤ most i) × (spelled n (dr
 abbrev μ-loop : tie.MeasureT-loop
 μ-loop s n₀ i₀ n i = length s - i
 
-loop-holds : tie.Need-loop-holds Inv-loop μ-loop
-loop-holds c = (omega arith, (omega arith, refl))
-
 so-far : (c : tie.In-loop Inv-loop μ-loop) → Holds (c .before .loop .n) (pos (c .before .loop .n)) (2 ^ 45)
 so-far c =
     nat (c .before .loop .n)
     (omega (arith, c .before .loop .inv .1 .0, most-le-12 (c .before .loop .i) (omega arith))) tt
-
-mul-n : tie.Need-mul-n Inv-loop μ-loop
-mul-n c = mul-ok (lit 10 tt) (so-far c) tt
-
-shared-slice-read-value : tie.Need-shared-slice-read-value Inv-loop μ-loop
-shared-slice-read-value c = omega arith
-
-value-requires : tie.Need-value-requires Inv-loop μ-loop
-value-requires c κs = search needs
 
 abbrev text : tie.After-value Inv-loop μ-loop → List ℕ
 text c = c .before .before .before .before .before .args .s .now
@@ -51,15 +39,6 @@ byte c = got (c .value .ensures) (omega (arith, byte-lt c)) tt
 tens : (c : tie.After-value Inv-loop μ-loop)
     → Holds (10 *ʷ c .before .before .before .loop .n) (pos (10 * c .before .before .before .loop .n)) (10 * (2 ^ 45))
 tens c = mul (lit 10 tt) (so-far (c .before .before)) tt
-
-add-n : tie.Need-add-n Inv-loop μ-loop
-add-n c = add-ok (tens c) (byte c) tt
-
-add-i : tie.Need-add-i Inv-loop μ-loop
-add-i c = omega arith
-
-loop-less : tie.Need-loop-less Inv-loop μ-loop
-loop-less c = omega arith
 
 loop-again : tie.Need-loop-again Inv-loop μ-loop
 loop-again c =
@@ -82,6 +61,27 @@ returns c =
       n-is ∙ ap pos (sym (spelled-end s (a .loop .i) (a .loop .n) (omega arith)) ∙ a .loop .inv .1 .1),
       rw (n-is, ← l) (a .loop .inv .1 .0),
     )
+
+loop-holds : tie.Need-loop-holds Inv-loop μ-loop
+loop-holds c = (omega arith, (omega arith, refl))
+
+mul-n : tie.Need-mul-n Inv-loop μ-loop
+mul-n c = mul-ok (lit 10 tt) (so-far c) tt
+
+shared-slice-read-value : tie.Need-shared-slice-read-value Inv-loop μ-loop
+shared-slice-read-value c = omega arith
+
+value-requires : tie.Need-value-requires Inv-loop μ-loop
+value-requires c κs = search needs
+
+add-n : tie.Need-add-n Inv-loop μ-loop
+add-n c = add-ok (tens c) (byte c) tt
+
+add-i : tie.Need-add-i Inv-loop μ-loop
+add-i c = omega arith
+
+loop-less : tie.Need-loop-less Inv-loop μ-loop
+loop-less c = omega arith
 
 pub spelled-spec : {M : Type 1} → statement M
 spelled-spec =

@@ -131,8 +131,8 @@ linear-requires c κs =
       highest-le = omega (arith, s .pre .1 .1 .changes-le);
     })
 
-mul-t6 : tie.Need-mul-t6
-mul-t6 c =
+mul-sines : tie.Need-mul-sines
+mul-sines c =
     let l = c .before .before in
     mul-ok (longitude-amplitude l) (sine-holds (l .before .before .before .before)) tt
 
@@ -145,8 +145,8 @@ linear-requires-2 c κs =
       highest-le = omega (arith, s .pre .1 .1 .changes-le);
     })
 
-mul-t8 : tie.Need-mul-t8
-mul-t8 c =
+mul-cosines : tie.Need-mul-cosines
+mul-cosines c =
     let l = c .before .before in
     mul-ok (obliquity-amplitude l) (cosine-holds (at-pair l)) tt
 
@@ -165,7 +165,7 @@ products-spec =
     term-angle-requires
     pair-requires
     linear-requires
-    mul-t6
+    mul-sines
     linear-requires-2
-    mul-t8
+    mul-cosines
     returns)

@@ -36,12 +36,6 @@ five-holds c = mul (lit 5 tt) (m-holds c) tt
 two-holds : (c : tie.Start) → Holds (2 *ʷ bits (c .args .n)) (pos (2 * n c)) (2 * 2 ^ 31)
 two-holds c = mul (lit 2 tt) (n-holds c) tt
 
-mul-if1 : tie.Need-mul-if1
-mul-if1 c = mul-ok (lit 5 tt) (m-holds c) tt
-
-mul-if1-2 : tie.Need-mul-if1-2
-mul-if1-2 c = mul-ok (lit 2 tt) (n-holds c) tt
-
 flat : (c : tie.Then1) → 5 * m (c .before) ≤ 2 * n (c .before)
 flat c =
     let b = c .before in
@@ -87,23 +81,6 @@ first-arc-holds c =
     got (rw (first-ratio-holds (c .before) .value) at (c .arc .ensures))
     (upTo-le (rule.arc (ratio (m b) (n b))) threeSevenths (first-range (c .before .before))) tt
 
-ratio-of-requires : tie.Need-ratio-of-requires
-ratio-of-requires c κs =
-    let b = c .before in
-    rw (m-holds b .value, n-holds b .value)
-    (given (m b) (n b) (omega (arith, m-holds b .size)) (omega (arith, n-holds b .size)) (b .pre .n-pos) (first-le c))
-
-arc-requires : tie.Need-arc-requires
-arc-requires c κs =
-    let b = c .before .before in
-    rw (first-ratio-holds c .value) (ratio-range (m b) (n b) (b .pre .n-pos) (first-le (c .before)))
-
-in-microarcseconds-requires : tie.Need-in-microarcseconds-requires
-in-microarcseconds-requires c κs =
-    let b = c .before .before .before in
-    rw (first-arc-holds c .value)
-    (upTo-of-le (rule.arc (ratio (m b) (n b))) threeSevenths unit (omega arith) (first-range (c .before .before)))
-
 returns : tie.Need-returns
 returns c =
     let b = c .before .before .before .before in
@@ -120,12 +97,6 @@ less-holds c = sub-nat (n-holds c) (m-holds c) (c .pre .m-le-n) tt
 
 more-holds : (c : tie.Start) → Holds (bits (c .args .n) +ʷ bits (c .args .m)) (pos (n c + m c)) (2 ^ 31 + 2 ^ 31)
 more-holds c = add (n-holds c) (m-holds c) tt
-
-sub-ratio-of : tie.Need-sub-ratio-of
-sub-ratio-of c = sub-nat-ok (n-holds (c .before)) (m-holds (c .before)) (c .before .pre .m-le-n) tt
-
-add-ratio-of : tie.Need-add-ratio-of
-add-ratio-of c = add-ok (n-holds (c .before)) (m-holds (c .before)) tt
 
 second-pos : (c : tie.Else1) → 0 < n (c .before) + m (c .before)
 second-pos c = omega (arith, steep c)
@@ -169,6 +140,43 @@ angle-holds c =
     (upTo-le (rule.inMicroarcseconds θ) halfQuarter
     (microarcseconds-range θ (second-range (c .before .before .before)))) tt
 
+returns-2 : tie.Need-returns-2
+returns-2 c =
+    let b = c .before .before .before .before in
+    rw (angle-steep (m b) (n b) (steep (c .before .before .before)))
+    (sub (lit halfQuarter tt) (angle-holds c) tt .value)
+
+-- ---- what each operation and call asks
+
+mul-if1 : tie.Need-mul-if1
+mul-if1 c = mul-ok (lit 5 tt) (m-holds c) tt
+
+mul-if1-2 : tie.Need-mul-if1-2
+mul-if1-2 c = mul-ok (lit 2 tt) (n-holds c) tt
+
+ratio-of-requires : tie.Need-ratio-of-requires
+ratio-of-requires c κs =
+    let b = c .before in
+    rw (m-holds b .value, n-holds b .value)
+    (given (m b) (n b) (omega (arith, m-holds b .size)) (omega (arith, n-holds b .size)) (b .pre .n-pos) (first-le c))
+
+arc-requires : tie.Need-arc-requires
+arc-requires c κs =
+    let b = c .before .before in
+    rw (first-ratio-holds c .value) (ratio-range (m b) (n b) (b .pre .n-pos) (first-le (c .before)))
+
+in-microarcseconds-requires : tie.Need-in-microarcseconds-requires
+in-microarcseconds-requires c κs =
+    let b = c .before .before .before in
+    rw (first-arc-holds c .value)
+    (upTo-of-le (rule.arc (ratio (m b) (n b))) threeSevenths unit (omega arith) (first-range (c .before .before)))
+
+sub-ratio-of : tie.Need-sub-ratio-of
+sub-ratio-of c = sub-nat-ok (n-holds (c .before)) (m-holds (c .before)) (c .before .pre .m-le-n) tt
+
+add-ratio-of : tie.Need-add-ratio-of
+add-ratio-of c = add-ok (n-holds (c .before)) (m-holds (c .before)) tt
+
 ratio-of-requires-2 : tie.Need-ratio-of-requires-2
 ratio-of-requires-2 c κs =
     let b = c .before in
@@ -187,12 +195,6 @@ in-microarcseconds-requires-2 c κs =
 
 sub-result : tie.Need-sub-result
 sub-result c = sub-ok (lit halfQuarter tt) (angle-holds c) tt
-
-returns-2 : tie.Need-returns-2
-returns-2 c =
-    let b = c .before .before .before .before in
-    rw (angle-steep (m b) (n b) (steep (c .before .before .before)))
-    (sub (lit halfQuarter tt) (angle-holds c) tt .value)
 
 pub angle-to-half-spec : {M : Type 1} → statement M
 angle-to-half-spec =

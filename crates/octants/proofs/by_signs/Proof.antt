@@ -28,9 +28,6 @@ v-below c = rw (v-held (c .before)) at (c .if1 .taken)
 v-not-below : (c : tie.Else1) → ltZ (c .before .args .v) (pos 0) ≡ false
 v-not-below c = rw (v-held (c .before)) at (c .if1 .left)
 
-add-result : tie.Need-add-result
-add-result c = add-ok (lit half tt) (a-holds (c .before .before)) tt
-
 returns : tie.Need-returns
 unfolding bySigns
 returns c =
@@ -38,18 +35,12 @@ returns c =
     let t : ltZ (b .args .h) (pos 0) ≡ true = rw (h-held b) at (c .if2 .taken) in
     rw (v-below (c .before), t) (add (lit half tt) (a-holds b) tt .value)
 
-sub-result : tie.Need-sub-result
-sub-result c = sub-ok (lit circle tt) (a-holds (c .before .before)) tt
-
 returns-2 : tie.Need-returns-2
 unfolding bySigns
 returns-2 c =
     let b = c .before .before in
     let t : ltZ (b .args .h) (pos 0) ≡ false = rw (h-held b) at (c .if2 .left) in
     rw (v-below (c .before), t) (sub (lit circle tt) (a-holds b) tt .value)
-
-sub-result-2 : tie.Need-sub-result-2
-sub-result-2 c = sub-ok (lit half tt) (a-holds (c .before .before)) tt
 
 returns-3 : tie.Need-returns-3
 unfolding bySigns
@@ -64,6 +55,15 @@ returns-4 c =
     let b = c .before .before in
     let t : ltZ (b .args .h) (pos 0) ≡ false = rw (h-held b) at (c .if3 .left) in
     rw (v-not-below (c .before), t) (a-holds b .value)
+
+add-result : tie.Need-add-result
+add-result c = add-ok (lit half tt) (a-holds (c .before .before)) tt
+
+sub-result : tie.Need-sub-result
+sub-result c = sub-ok (lit circle tt) (a-holds (c .before .before)) tt
+
+sub-result-2 : tie.Need-sub-result-2
+sub-result-2 c = sub-ok (lit half tt) (a-holds (c .before .before)) tt
 
 pub by-signs-spec : {M : Type 1} → statement M
 by-signs-spec =

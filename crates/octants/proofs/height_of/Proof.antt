@@ -46,19 +46,6 @@ root-holds c =
     got (rw (squares-hold b .value, squares-is (b .args .x) (b .args .y)) at (c .whole-root .ensures))
     (b .pre .root-le) tt
 
-mul-whole-root : tie.Need-mul-whole-root
-mul-whole-root c = mul-ok (x-holds c) (x-holds c) tt
-
-mul-whole-root-2 : tie.Need-mul-whole-root-2
-mul-whole-root-2 c = mul-ok (y-holds c) (y-holds c) tt
-
-add-whole-root : tie.Need-add-whole-root
-add-whole-root c = add-ok (mul (x-holds c) (x-holds c) tt) (mul (y-holds c) (y-holds c) tt) tt
-
-whole-root-requires : tie.Need-whole-root-requires
-whole-root-requires c κs =
-    rw (squares-hold c .value, squares-is (c .args .x) (c .args .y)) (record { le = le→leb 0 (sum c) (omega arith) })
-
 -- ---- the reading
 
 abbrev angle : tie.Start → ℤ
@@ -69,14 +56,6 @@ angle-holds c =
     let b = c .before .before in
     got (rw (root-holds (c .before) .value, z-holds b .value) at (c .reading-of .ensures))
     (upTo-le (angle b) (circle - 1) (reading-range (pos (root (sum b))) (b .args .z))) tt
-
-reading-of-requires : tie.Need-reading-of-requires
-reading-of-requires c κs =
-    rw (root-holds c .value, z-holds (c .before) .value)
-    (record { h-le = omega (arith, root-holds c .size); v-le = omega (arith, z-holds (c .before) .size) })
-
-sub-result : tie.Need-sub-result
-sub-result c = sub-ok (angle-holds (c .before)) (lit circle tt) tt
 
 returns : tie.Need-returns
 unfolding height asHeight
@@ -91,6 +70,29 @@ returns-2 c =
     let t : ltZ (pos half) (angle (c .before .before .before)) ≡ false =
     rw (angle-holds (c .before) .value) at (c .if1 .left) in
     rw t (angle-holds (c .before) .value)
+
+-- ---- what each operation and call asks
+
+mul-whole-root : tie.Need-mul-whole-root
+mul-whole-root c = mul-ok (x-holds c) (x-holds c) tt
+
+mul-whole-root-2 : tie.Need-mul-whole-root-2
+mul-whole-root-2 c = mul-ok (y-holds c) (y-holds c) tt
+
+add-whole-root : tie.Need-add-whole-root
+add-whole-root c = add-ok (mul (x-holds c) (x-holds c) tt) (mul (y-holds c) (y-holds c) tt) tt
+
+whole-root-requires : tie.Need-whole-root-requires
+whole-root-requires c κs =
+    rw (squares-hold c .value, squares-is (c .args .x) (c .args .y)) (record { le = le→leb 0 (sum c) (omega arith) })
+
+reading-of-requires : tie.Need-reading-of-requires
+reading-of-requires c κs =
+    rw (root-holds c .value, z-holds (c .before) .value)
+    (record { h-le = omega (arith, root-holds c .size); v-le = omega (arith, z-holds (c .before) .size) })
+
+sub-result : tie.Need-sub-result
+sub-result c = sub-ok (angle-holds (c .before)) (lit circle tt) tt
 
 pub height-of-spec : {M : Type 1} → statement M
 height-of-spec =

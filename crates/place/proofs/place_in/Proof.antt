@@ -6,6 +6,18 @@ use Rattle.laws.specs.Place.{apparent-accepted, overhead-accepted}
 use Rattle.place.proofs.place_in.Statement.{statement}
 use Rattle.place.proofs.place_in.Tie as tie
 
+overhead-is : (c : tie.After-overhead)
+    → c .overhead .result
+    ≡ overhead (c .before .before .args .n) (apparent (c .before .before .args .n) (c .before .before .args .s))
+overhead-is c = c .overhead .ensures ∙ ap (overhead _) (c .before .apparent .ensures)
+
+returns : tie.Need-returns
+unfolding placeIn
+returns c =
+    c .readings .ensures
+    ∙ ap (λ v. readings v (c .before .overhead .result)) (c .before .before .apparent .ensures)
+    ∙ ap (readings _) (overhead-is (c .before))
+
 apparent-requires : tie.Need-apparent-requires
 apparent-requires c κs = search needs
 
@@ -15,11 +27,6 @@ overhead-requires c κs =
     let fits = c .before .pre .night in
     record { night = fits; direction = rw (c .apparent .ensures) (apparent-accepted n fits (c .before .args .s)) }
 
-overhead-is : (c : tie.After-overhead)
-    → c .overhead .result
-    ≡ overhead (c .before .before .args .n) (apparent (c .before .before .args .n) (c .before .before .args .s))
-overhead-is c = c .overhead .ensures ∙ ap (overhead _) (c .before .apparent .ensures)
-
 readings-requires : tie.Need-readings-requires
 readings-requires c κs =
     let start = c .before .before in
@@ -28,13 +35,6 @@ readings-requires c κs =
       rw (c .before .apparent .ensures) accepted,
       rw (overhead-is c) (overhead-accepted n (start .pre .night) _ accepted),
     )
-
-returns : tie.Need-returns
-unfolding placeIn
-returns c =
-    c .readings .ensures
-    ∙ ap (λ v. readings v (c .before .overhead .result)) (c .before .before .apparent .ensures)
-    ∙ ap (readings _) (overhead-is (c .before))
 
 pub place-in-spec : {M : Type 1} → statement M
 place-in-spec = tie.close (tie.spec apparent-requires overhead-requires readings-requires returns)

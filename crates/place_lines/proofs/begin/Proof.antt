@@ -1,9 +1,6 @@
 -- `place_lines::begin` meets its contract.
 use mathlib.Core.Path.{sym, ap, _∙_}
-use mir.Syntax.{w64}
-use mir.Facts.{toZ-ofZ}
-use borrow.Author.Needs.{needs, sfits-of}
-use Rattle.place_lines.specs.declared.Begun.{Begun}
+use borrow.Author.Needs.{needs}
 use Rattle.asking.specs.Asking.{askedOf}
 use Rattle.place_lines.specs.Answers.{begunFor, begunOf, begun}
 use Rattle.place_lines.proofs.begin.Statement.{statement}
@@ -24,9 +21,6 @@ begin-for-requires c κs = search needs
 enum-known-count-2 : tie.Need-enum-known-count-2
 enum-known-count-2 c = search needs
 
-number-requires : tie.Need-number-requires
-number-requires c κs = search needs
-
 returns : tie.Need-returns
 unfolding begun begunOf
 returns c =
@@ -39,10 +33,9 @@ returns c =
 returns-2 : tie.Need-returns-2
 unfolding begun begunOf
 returns-2 c =
-    let s = c .before .before .before .before .before .before .before in
-    ap Begun.Refused (toZ-ofZ {w = w64} (sfits-of (c .number .ok)) ∙ c .number .ensures)
-    ∙ ap (λ l. begunOf l (askedOf (s .args .line .now)))
-    (sym (sym (c .before .before .before .before .list-count .ensures) ∙ c .before .before .count2 .given .1))
+    let s = c .before .before .before .before .before .before in
+    ap (λ l. begunOf l (askedOf (s .args .line .now)))
+    (sym (sym (c .before .before .before .list-count .ensures) ∙ c .before .count2 .given .1))
 
 pub begin-spec : {M : Type 1} → statement M
 begin-spec =
@@ -53,6 +46,5 @@ begin-spec =
     asked-of-requires
     begin-for-requires
     enum-known-count-2
-    number-requires
     returns
     returns-2)

@@ -2,6 +2,7 @@
 use mathlib.Core.Path.{_≡_, sym, ap, _∙_}
 use mathlib.Core.List.{List, _++_}
 use Prim.Native.Nat.{ℕ}
+use native.Mathlib.Omega.{arith}
 use lib.ListN.{length}
 use lib.Seq.{sets}
 use mir.Syntax.{w64}
@@ -44,7 +45,7 @@ module _ (c : tie.After-worked) where
 put-entry-requires : tie.Need-put-entry-requires
 put-entry-requires c κs =
     let w = c .before in
-    (star-index-le (file w) (begin w .args .index) (star w) (star-is w), begin w .pre .1)
+    (omega (arith, star-index-le (file w) (begin w .args .index) (star w) (star-is w)), begin w .pre .1)
 
 enum-known-star-2 : tie.Need-enum-known-star-2
 enum-known-star-2 c = search needs

@@ -8,11 +8,12 @@ use prog.Memory.{Memory}
 use prog.Routine.{Routine}
 use prog.Wp.{Heap}
 use ghost.Atoms.{Atoms}
-use contract.Monad.{Fun, fact-mono}
+use contract.Monad.{Fun}
 use denote.Ref.{now}
 use Rattle.stars.specs.Numbers.{starOf}
 use Rattle.answers.specs.Given.{momentOf, siteOf, directionOf}
-use Rattle.promises.specs.Contracts.{Tells}
+use Rattle.promises.specs.Contracts.{Tells, so-told}
+use Rattle.promises.specs.ByContractForC as answers
 use Rattle.promises.specs.Demand1.Checks.{placeChecks, turnChecks, fileChecks, starChecks, rowChecks}
 use Rattle.promises.specs.Demand1.InOrder.{Refuses, Keeps}
 use Rattle.promises.specs.Demand1.Boundary as boundary
@@ -35,30 +36,37 @@ module _ {M : Type 1} (𝓤 : URA M) (H : Heap 𝓤) (A : Atoms 𝓤) (mem : Mem
       (time .0) (time .1 .0) (time .1 .1 .0) (time .1 .1 .1 .0) (time .1 .1 .1 .1 .0))
       (starOf (star .0) (star .1 .0) (star .1 .1 .0) (star .1 .1 .1 .0))
       (siteOf (site .0) (site .1 .0))))
-  turbelicus-place-tells κs passed g a x = fact-mono 𝓤 _ _ (λ e r. rw e (boundary.turbelicus-place-refused _ _ _ r))
+  turbelicus-place-tells κs passed g a x =
+      so-told 𝓤 (answers.turbelicus-place-answers 𝓤 H A mem run κs passed g a x)
+      (λ e r. rw e (boundary.turbelicus-place-refused _ _ _ r))
 
   -- x, y, z, axis, angle
-  pub turbelicus-turn-tells : Tells 𝓤 turbelicus-turn.ended (turbelicus-turn.clauses 𝓤 H A mem run)
+  pub turbelicus-turn-tells : Tells 𝓤 turbelicus-turn.ended (answers.turbelicusTurnContract 𝓤 H A mem run)
       (λ κs passed a x. Refuses a boundary.turnRefused (turnChecks (passed .1 .1 .1 .0) (passed .1 .1 .1 .1 .0)
       (directionOf (passed .0) (passed .1 .0) (passed .1 .1 .0))))
-  turbelicus-turn-tells κs passed g a x = fact-mono 𝓤 _ _ (λ e r. rw e (boundary.turbelicus-turn-refused _ _ _ r))
+  turbelicus-turn-tells κs passed g a x =
+      so-told 𝓤 (answers.turbelicus-turn-answers 𝓤 H A mem run κs passed g a x)
+      (λ e r. rw e (boundary.turbelicus-turn-refused _ _ _ r))
 
   pub turbelicus-list-count-tells : Tells 𝓤 turbelicus-list-count.ended
       (turbelicus-list-count.clauses 𝓤 H A mem run)
       (λ κs passed a x. Refuses a boundary.countRefused (fileChecks (now (passed .0))))
-  turbelicus-list-count-tells κs passed g a x = fact-mono 𝓤 _ _ (λ e r.
-      rw e (boundary.turbelicus-list-count-refused (now (passed .0)) r))
+  turbelicus-list-count-tells κs passed g a x =
+      so-told 𝓤 (answers.turbelicus-list-count-answers 𝓤 H A mem run κs passed g a x)
+      (λ e r. rw e (boundary.turbelicus-list-count-refused (now (passed .0)) r))
 
   pub turbelicus-list-star-tells : Tells 𝓤 turbelicus-list-star.ended (turbelicus-list-star.clauses 𝓤 H A mem run)
       (λ κs passed a x. Refuses a boundary.starRefused (starChecks (now (passed .0)) (passed .1 .0)))
-  turbelicus-list-star-tells κs passed g a x = fact-mono 𝓤 _ _ (λ e r.
-      rw e (boundary.turbelicus-list-star-refused (now (passed .0)) (passed .1 .0) r))
+  turbelicus-list-star-tells κs passed g a x =
+      so-told 𝓤 (answers.turbelicus-list-star-answers 𝓤 H A mem run κs passed g a x)
+      (λ e r. rw e (boundary.turbelicus-list-star-refused (now (passed .0)) (passed .1 .0) r))
 
   pub turbelicus-list-write-tells : Tells 𝓤 turbelicus-list-write.ended
       (turbelicus-list-write.clauses 𝓤 H A mem run)
       (λ κs passed a x. Refuses a boundary.writeRefused (rowChecks (now (passed .0)) (now (passed .1 .0)))
       × Keeps (now (passed .1 .0)) (now (x .1 .0)) (rowChecks (now (passed .0)) (now (passed .1 .0))))
-  turbelicus-list-write-tells κs passed g a x = fact-mono 𝓤 _ _ (λ e. (
-    λ r. rw (e .0) (boundary.turbelicus-list-write-refused (now (passed .0)) (now (passed .1 .0)) r),
-    λ r f. e .1 ∙ row-kept (now (passed .0)) (now (passed .1 .0)) r f,
-  ))
+  turbelicus-list-write-tells κs passed g a x =
+      so-told 𝓤 (answers.turbelicus-list-write-answers 𝓤 H A mem run κs passed g a x) (λ e. (
+        λ r. rw (e .0) (boundary.turbelicus-list-write-refused (now (passed .0)) (now (passed .1 .0)) r),
+        λ r f. e .1 ∙ row-kept (now (passed .0)) (now (passed .1 .0)) r f,
+      ))

@@ -1,4 +1,4 @@
--- Demand 1 of turns: `turning::turn` 7, 8, where 13 never comes; `length::to_length` 13.
+-- Demand 1 of turns: `turning::turn` 7, 8; and bringing to length, whose rule alone has 13 (`Thirteen`).
 use mathlib.Core.Path.{_≡_, refl, ap, _∙_}
 use mathlib.Core.Logic.{_↔_}
 use mathlib.Core.Bool.{Bool, true, false, cond}

@@ -7,13 +7,13 @@ use prog.Wp.{Heap}
 use ghost.Atoms.{Atoms}
 use contract.Monad.{Fun}
 use Rattle.promises.specs.Contracts.{OneAnswer, one}
-use Rattle.asking.proofs.word_length as word-length
+use Rattle.asking.proofs.length_before as length-before
 use Rattle.asking.proofs.with_site as with-site
 use Rattle.asking.proofs.asked_of as asked-of
 
 module _ {M : Type 1} (𝓤 : URA M) (H : Heap 𝓤) (A : Atoms 𝓤) (mem : Memory → SProp 𝓤) (run : Routine → Fun 𝓤) where
-  pub word-length-one : OneAnswer 𝓤 word-length.ended (word-length.clauses 𝓤 H A mem run)
-  word-length-one κs passed g r s x y = one 𝓤 r s _
+  pub length-before-one : OneAnswer 𝓤 length-before.ended (length-before.clauses 𝓤 H A mem run)
+  length-before-one κs passed g r s x y = one 𝓤 r s _
 
   pub with-site-one : OneAnswer 𝓤 with-site.ended (with-site.clauses 𝓤 H A mem run)
   with-site-one κs passed g r s x y = one 𝓤 r s _

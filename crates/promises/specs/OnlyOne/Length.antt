@@ -12,7 +12,6 @@ use Rattle.length.proofs.length_of as length-of
 use Rattle.length.proofs.parts_to as parts-to
 use Rattle.length.proofs.part_to as part-to
 use Rattle.length.proofs.accepted as accepted
-use Rattle.length.proofs.to_length as to-length
 use Rattle.length.proofs.brought as brought
 
 module _ {M : Type 1} (𝓤 : URA M) (H : Heap 𝓤) (A : Atoms 𝓤) (mem : Memory → SProp 𝓤) (run : Routine → Fun 𝓤) where
@@ -30,9 +29,6 @@ module _ {M : Type 1} (𝓤 : URA M) (H : Heap 𝓤) (A : Atoms 𝓤) (mem : Mem
 
   pub accepted-one : OneAnswer 𝓤 accepted.ended (accepted.clauses 𝓤 H A mem run)
   accepted-one κs passed g r s x y = one 𝓤 r s _
-
-  pub to-length-one : OneAnswer 𝓤 to-length.ended (to-length.clauses 𝓤 H A mem run)
-  to-length-one κs passed g r s x y = one 𝓤 r s _
 
   pub brought-one : OneAnswer 𝓤 brought.ended (brought.clauses 𝓤 H A mem run)
   brought-one κs passed g r s x y = one 𝓤 r s _

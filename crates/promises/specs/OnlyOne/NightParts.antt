@@ -9,6 +9,8 @@ use contract.Monad.{Fun}
 use Rattle.promises.specs.Contracts.{OneAnswer, one}
 use Rattle.night_parts.proofs.opposite_of as opposite-of
 use Rattle.night_parts.proofs.aberration as aberration
+use Rattle.night_parts.proofs.aberration_x as aberration-x
+use Rattle.night_parts.proofs.aberration_y as aberration-y
 use Rattle.night_parts.proofs.sidereal_pair as sidereal-pair
 use Rattle.night_parts.proofs.latitude_pair as latitude-pair
 
@@ -18,6 +20,12 @@ module _ {M : Type 1} (𝓤 : URA M) (H : Heap 𝓤) (A : Atoms 𝓤) (mem : Mem
 
   pub aberration-one : OneAnswer 𝓤 aberration.ended (aberration.clauses 𝓤 H A mem run)
   aberration-one κs passed g r s x y = one 𝓤 r s _
+
+  pub aberration-x-one : OneAnswer 𝓤 aberration-x.ended (aberration-x.clauses 𝓤 H A mem run)
+  aberration-x-one κs passed g r s x y = one 𝓤 r s _
+
+  pub aberration-y-one : OneAnswer 𝓤 aberration-y.ended (aberration-y.clauses 𝓤 H A mem run)
+  aberration-y-one κs passed g r s x y = one 𝓤 r s _
 
   pub sidereal-pair-one : OneAnswer 𝓤 sidereal-pair.ended (sidereal-pair.clauses 𝓤 H A mem run)
   sidereal-pair-one κs passed g r s x y = one 𝓤 r s _

@@ -10,6 +10,8 @@ use denote.Ref.{now}
 use Rattle.promises.specs.Contracts.{OneAnswer, OneAnswerAndContent, one, one-each}
 use Rattle.place_lines.proofs.begin as begin
 use Rattle.place_lines.proofs.print_entry as print-entry
+use Rattle.place_lines.proofs.print_answer as print-answer
+use Rattle.place_lines.proofs.command.is_command as is-command
 
 module _ {M : Type 1} (𝓤 : URA M) (H : Heap 𝓤) (A : Atoms 𝓤) (mem : Memory → SProp 𝓤) (run : Routine → Fun 𝓤) where
   pub begin-one : OneAnswer 𝓤 begin.ended (begin.clauses 𝓤 H A mem run)
@@ -18,3 +20,10 @@ module _ {M : Type 1} (𝓤 : URA M) (H : Heap 𝓤) (A : Atoms 𝓤) (mem : Mem
   pub print-entry-one : OneAnswerAndContent 𝓤 print-entry.ended (print-entry.clauses 𝓤 H A mem run)
       (λ κs x. now (x .1 .1 .1 .1 .0))
   print-entry-one κs passed g r s x y = one-each 𝓤 r s _ _ _ _
+
+  pub print-answer-one : OneAnswerAndContent 𝓤 print-answer.ended (print-answer.clauses 𝓤 H A mem run)
+      (λ κs x. now (x .1 .1 .1 .0))
+  print-answer-one κs passed g r s x y = one-each 𝓤 r s _ _ _ _
+
+  pub is-command-one : OneAnswer 𝓤 is-command.ended (is-command.clauses 𝓤 H A mem run)
+  is-command-one κs passed g r s x y = one 𝓤 r s _

@@ -7,7 +7,7 @@ use prog.Wp.{Heap}
 use ghost.Atoms.{Atoms}
 use contract.Monad.{Fun}
 use denote.Ref.{now}
-use Rattle.promises.specs.Contracts.{OneAnswer, OneAnswerAndContent, one-and, one-content}
+use Rattle.promises.specs.Contracts.{OneAnswer, OneAnswerAndContent, one, one-and, one-content}
 use Rattle.star_bytes.proofs.number_at as number-at
 use Rattle.star_bytes.proofs.two_bytes_at as two-bytes-at
 use Rattle.star_bytes.proofs.put_number as put-number
@@ -17,7 +17,7 @@ module _ {M : Type 1} (𝓤 : URA M) (H : Heap 𝓤) (A : Atoms 𝓤) (mem : Mem
   number-at-one κs passed g r s x y = one-and 𝓤 r s _ _ _
 
   pub two-bytes-at-one : OneAnswer 𝓤 two-bytes-at.ended (two-bytes-at.clauses 𝓤 H A mem run)
-  two-bytes-at-one κs passed g r s x y = one-and 𝓤 r s _ _ _
+  two-bytes-at-one κs passed g r s x y = one 𝓤 r s _
 
   pub put-number-one : OneAnswerAndContent 𝓤 put-number.ended (put-number.clauses 𝓤 H A mem run)
       (λ κs x. now (x .0))

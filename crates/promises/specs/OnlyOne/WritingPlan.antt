@@ -8,13 +8,13 @@ use ghost.Atoms.{Atoms}
 use contract.Monad.{Fun}
 use denote.Ref.{now}
 use Rattle.promises.specs.Contracts.{OneAnswer, OneAnswerAndContent, one, one-both}
-use Rattle.writing_plan.proofs.tally as tally
+use Rattle.writing_plan.proofs.refused_up_to as refused-up-to
 use Rattle.writing_plan.proofs.write_plan as write-plan
 use Rattle.writing_plan.proofs.finish as finish
 
 module _ {M : Type 1} (𝓤 : URA M) (H : Heap 𝓤) (A : Atoms 𝓤) (mem : Memory → SProp 𝓤) (run : Routine → Fun 𝓤) where
-  pub tally-one : OneAnswer 𝓤 tally.ended (tally.clauses 𝓤 H A mem run)
-  tally-one κs passed g r s x y = one 𝓤 r s _
+  pub refused-up-to-one : OneAnswer 𝓤 refused-up-to.ended (refused-up-to.clauses 𝓤 H A mem run)
+  refused-up-to-one κs passed g r s x y = one 𝓤 r s _
 
   pub write-plan-one : OneAnswer 𝓤 write-plan.ended (write-plan.clauses 𝓤 H A mem run)
   write-plan-one κs passed g r s x y = one 𝓤 r s _

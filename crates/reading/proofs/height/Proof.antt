@@ -21,16 +21,16 @@ y-holds c = arg (c .args .v .y) (given c .y-le) tt
 z-holds : (c : tie.Start) → Holds (bits (c .args .v .z)) (c .args .v .z) (unit + 1)
 z-holds c = arg (c .args .v .z) (given c .z-le) tt
 
-height-of-requires : tie.Need-height-of-requires
-height-of-requires c κs =
-    let b = c .before .before .before in
-    rw (x-holds b .value, y-holds b .value, z-holds b .value) (given b)
-
 returns : tie.Need-returns
 returns c =
     let b = c .before .before .before .before in
     search needs
     ∙ rw (x-holds b .value, y-holds b .value, z-holds b .value) at (c .height-of .ensures)
+
+height-of-requires : tie.Need-height-of-requires
+height-of-requires c κs =
+    let b = c .before .before .before in
+    rw (x-holds b .value, y-holds b .value, z-holds b .value) (given b)
 
 pub height-spec : {M : Type 1} → statement M
 height-spec = tie.close (tie.spec height-of-requires returns)

@@ -3,10 +3,10 @@ use mathlib.Core.Path.{sym}
 use Prim.Native.Nat.{ℕ, _+_, _*_, _/_, _-_, _≤_, _<_, _^_}
 use native.Mathlib.Nat.{div-lt-iff-lt-mul}
 use native.Mathlib.Omega.{arith}
-use lib.Dec.{lt→ltb}
+use lib.Dec.{lit<, lt→ltb}
 use lib.IntN.{pos, natAbs}
 use lib.Signed.{_<ℤ_, pos-natAbs, yes-nonNeg, ltZ-yes}
-use Rattle.words.specs.Fits.{size64-lt}
+use Rattle.words.specs.Fits.{size64-lt, fits64}
 use Rattle.words.specs.Holds.{Holds, bits, _/ʷ_, got, lit, bounded, add, add-ok, div, div-ok}
 use Rattle.roots.proofs.closer_to_root.Statement.{statement}
 use Rattle.roots.proofs.closer_to_root.Tie as tie
@@ -46,7 +46,9 @@ add-result : tie.Need-add-result
 add-result c = add-ok (trial-holds c) (quotient-holds c) tt
 
 div-result-2 : tie.Need-div-result-2
-div-result-2 c = div-ok (add (trial-holds c) (quotient-holds c) tt) (lit 2 tt) (ltZ-yes tt) tt
+div-result-2 c =
+    let sum = add (trial-holds c) (quotient-holds c) tt in
+    (lit< tt, rw (sum .value) (fits64 _ (omega (arith, sum .size))))
 
 returns : tie.Need-returns
 returns c = div (add (trial-holds c) (quotient-holds c) tt) (lit 2 tt) (ltZ-yes tt) tt .value

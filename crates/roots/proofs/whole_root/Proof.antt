@@ -40,21 +40,58 @@ number-held c = toZ-pos w64 (number-lt c)
 
 ruleset numbers = (number-bits, number-held)
 
--- ---- before the loop
+-- ---- at the loop's test
 
-nonneg : (c : Start) → pos 0 ≤ℤ toZ w64 (ofZ w64 (c .args .n))
-nonneg c = rw (toZ-ofZ (c .fits .n)) (c .pre)
+abbrev AtLoop : Type 0
+AtLoop = tie.At-loop Inv-loop μ-loop
+
+abbrev start : AtLoop → Start
+start c = c .before .before .before .before
+
+trial-held : (c : AtLoop) → toZ w64 (c .loop .trial) ≡ pos (c .loop .trial)
+trial-held c = toZ-pos w64 (omega arith)
+
+next-is : (c : AtLoop) → c .loop .next ≡ closer (number (start c)) (c .loop .trial)
+next-is c = c .loop .inv .4 ∙ ap (λ n. closer n (c .loop .trial)) (number-bits (start c))
+
+next-le : (c : AtLoop) → c .loop .next ≤ 3037000502
+next-le c =
+    let i = simp numbers at (c .loop .inv) in
+    rw (next-is c) (at-most (number (start c)) (c .loop .trial) (i .1) (i .2) (i .3))
+  where
+    at-most : (n x : ℕ) → 0 < x → x ≤ 3037000500 → n < (x + 1) * (x + 1) → closer n x ≤ 3037000502
+    at-most n x h k l = omega (arith, div-lt-iff-lt-mul {k = x} {x = n} {y = x + 3} h .1 (omega arith))
+
+next-held : (c : AtLoop) → toZ w64 (c .loop .next) ≡ pos (c .loop .next)
+next-held c = toZ-pos w64 (omega (arith, next-le c))
+
+-- ---- the answer
 
 returns : tie.Need-returns Inv-loop μ-loop
 returns c =
     let t = ltb-true (number (c .before)) 1 (simp numbers at (c .if1 .taken)) in
     ap pos (is-root (number (c .before)) 0 (omega arith) (record { below = omega arith; above = omega arith }))
 
-some-number : (c : tie.Else1 Inv-loop μ-loop) → 0 < number (c .before)
-some-number c = omega (arith, ltb-false (number (c .before)) 1 (simp numbers at (c .if1 .left)))
+returns-2 : tie.Need-returns-2 Inv-loop μ-loop
+returns-2 c =
+    let at = c .before in
+    let n = number (start at) in
+    let i = simp numbers at (at .loop .inv) in
+    let t = ltb-false (at .loop .next) (at .loop .trial) (rw (next-held at, trial-held at) at (c .loop-test .left)) in
+    trial-held at
+    ∙ ap pos (is-root n (at .loop .trial) (omega (arith, number-lt (start at)))
+    (closer-root n (at .loop .trial) (i .3) (rw (next-is at) at t)))
+
+-- ---- before the loop
+
+nonneg : (c : Start) → pos 0 ≤ℤ toZ w64 (ofZ w64 (c .args .n))
+nonneg c = rw (toZ-ofZ (c .fits .n)) (c .pre)
 
 first-trial-requires : tie.Need-first-trial-requires Inv-loop μ-loop
 first-trial-requires c κs = nonneg (c .before)
+
+some-number : (c : tie.Else1 Inv-loop μ-loop) → 0 < number (c .before)
+some-number c = omega (arith, ltb-false (number (c .before)) 1 (simp numbers at (c .if1 .left)))
 
 first : (c : tie.After-first-trial Inv-loop μ-loop) → Trial (c .before .before .args .n) (c .first-trial .result)
 first c = rw (toZ-ofZ (c .before .before .fits .n)) at (c .first-trial .ensures)
@@ -84,29 +121,6 @@ loop-holds c =
     (some-number (c .before .before), t .some, t .le, t .above, refl)
 
 -- ---- in the loop
-
-abbrev AtLoop : Type 0
-AtLoop = tie.At-loop Inv-loop μ-loop
-
-abbrev start : AtLoop → Start
-start c = c .before .before .before .before
-
-trial-held : (c : AtLoop) → toZ w64 (c .loop .trial) ≡ pos (c .loop .trial)
-trial-held c = toZ-pos w64 (omega arith)
-
-next-is : (c : AtLoop) → c .loop .next ≡ closer (number (start c)) (c .loop .trial)
-next-is c = c .loop .inv .4 ∙ ap (λ n. closer n (c .loop .trial)) (number-bits (start c))
-
-next-le : (c : AtLoop) → c .loop .next ≤ 3037000502
-next-le c =
-    let i = simp numbers at (c .loop .inv) in
-    rw (next-is c) (at-most (number (start c)) (c .loop .trial) (i .1) (i .2) (i .3))
-  where
-    at-most : (n x : ℕ) → 0 < x → x ≤ 3037000500 → n < (x + 1) * (x + 1) → closer n x ≤ 3037000502
-    at-most n x h k l = omega (arith, div-lt-iff-lt-mul {k = x} {x = n} {y = x + 3} h .1 (omega arith))
-
-next-held : (c : AtLoop) → toZ w64 (c .loop .next) ≡ pos (c .loop .next)
-next-held c = toZ-pos w64 (omega (arith, next-le c))
 
 nearer : (c : tie.In-loop Inv-loop μ-loop) → c .before .loop .next < c .before .loop .trial
 nearer c = ltb-true (c .before .loop .next) (c .before .loop .trial)
@@ -149,18 +163,6 @@ loop-again c =
     let t = next-trial (c .before) in
     let i = simp numbers at (c .before .before .loop .inv) in
     simp (numbers, after-bits c) (i .0, t .some, t .le, t .above, refl)
-
--- ---- after it
-
-returns-2 : tie.Need-returns-2 Inv-loop μ-loop
-returns-2 c =
-    let at = c .before in
-    let n = number (start at) in
-    let i = simp numbers at (at .loop .inv) in
-    let t = ltb-false (at .loop .next) (at .loop .trial) (rw (next-held at, trial-held at) at (c .loop-test .left)) in
-    trial-held at
-    ∙ ap pos (is-root n (at .loop .trial) (omega (arith, number-lt (start at)))
-    (closer-root n (at .loop .trial) (i .3) (rw (next-is at) at t)))
 
 pub whole-root-spec : {M : Type 1} → statement M
 whole-root-spec =

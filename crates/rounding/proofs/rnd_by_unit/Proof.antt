@@ -16,6 +16,7 @@ use Rattle.words.specs.Fits.{fits64}
 use Rattle.words.specs.Holds.{Holds, bits, _+ʷ_, arg, lit, add, add-ok}
 use Rattle.rules.specs.Units.{unit}
 use Rattle.rules.specs.Rounding.{rnd, rndSize}
+use Rattle.rounding.specs.Given.{mostDividend}
 use Rattle.rounding.proofs.Half.{rndSize-by-half}
 use Rattle.rounding.proofs.rnd_by_unit.Statement.{statement}
 use Rattle.rounding.proofs.rnd_by_unit.Tie as tie
@@ -33,7 +34,7 @@ abbrev sign : ℤ → ℤ
 sign (pos n) = pos 0
 sign (negsuc n) = negsuc 0
 
-sign-is : (a : ℤ) → natAbs a ≤ 2 ^ 62 → shrZ a (2 ^ 63) ≡ sign a
+sign-is : (a : ℤ) → natAbs a ≤ mostDividend → shrZ a (2 ^ 63) ≡ sign a
 sign-is (pos n) h = let e : n / 2 ^ 63 ≡ 0 = omega arith in ap pos e
 sign-is (negsuc n) h = let e : n / 2 ^ 63 ≡ 0 = omega arith in ap negsuc e
 
@@ -66,7 +67,7 @@ shifted : {n : ℕ} {z : ℤ} {b : ℕ} (m : ℕ) → Holds n z b → T (ltb b (
 shifted {n} {z} {b} m h t =
     rw (h .value) (toZ-ofZ (sfits-le (mag-shr z m) (fits64 z (omega (arith, h .size, ltb→lt b (2 ^ 63) t)))))
 
-a-holds : (c : tie.Start) → Holds (bits (c .args .a)) (c .args .a) (2 ^ 62)
+a-holds : (c : tie.Start) → Holds (bits (c .args .a)) (c .args .a) mostDividend
 a-holds c = arg (c .args .a) (c .pre) tt
 
 sign-le : (a : ℤ) → natAbs (sign a) ≤ 1
@@ -79,11 +80,11 @@ sign-holds c = record {
   size = sign-le (c .args .a);
 }
 
-half-holds : (c : tie.Start) → Holds (bits (c .args .a) +ʷ half) (c .args .a +ℤ pos half) (2 ^ 62 + half)
-half-holds c = add (a-holds c) (lit half tt) tt
-
 add-result : tie.Need-add-result
 add-result c = add-ok (a-holds c) (lit half tt) tt
+
+half-holds : (c : tie.Start) → Holds (bits (c .args .a) +ʷ half) (c .args .a +ℤ pos half) (mostDividend + half)
+half-holds c = add (a-holds c) (lit half tt) tt
 
 add-result-2 : tie.Need-add-result-2
 add-result-2 c = add-ok (half-holds c) (sign-holds c) tt

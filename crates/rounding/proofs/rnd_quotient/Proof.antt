@@ -1,76 +1,66 @@
 -- `rounding::rnd_quotient` meets its contract: any dividend fits, so each part is shown to fit by its own law.
-use Prim.Native.Nat.{_*_}
+use mathlib.Core.Path.{_≡_, _∙_}
 use native.Mathlib.Omega.{arith}
-use lib.IntN.{ℤ, pos, natAbs, _+ℤ_, _*ℤ_}
+use lib.IntN.{pos, natAbs, _+ℤ_, _*ℤ_}
 use lib.Signed.{quotZ, remZ}
 use mir.Syntax.{w64}
-use mir.Val.{SFits}
+use mir.Val.{SFits, toZ, ofZ}
 use mir.Facts.{toZ-ofZ}
 use mir.ValLaws.{sfits-le}
-use borrow.Author.Needs.{needs}
-use Rattle.integers.specs.Size.{abs-mul}
 use Rattle.integers.specs.Quotient.{rem-lt, size-pos}
-use Rattle.words.specs.Fits.{fits64, quot-fits, rem-fits, quot-ok}
+use Rattle.words.specs.Fits.{held64, quot-fits, rem-fits, quot-ok}
 use Rattle.laws.specs.Rounding.{rnd-by-quotients, mag-rnd}
 use Rattle.rounding.proofs.rnd_quotient.Statement.{statement}
 use Rattle.rounding.proofs.rnd_quotient.Tie as tie
 
--- what fits on the way
-record Fit (a b : ℤ) : Type 0 where
-  dividend : SFits w64 a
-  divisor : SFits w64 b
-  quotient : SFits w64 (quotZ a b)
-  rest : SFits w64 (remZ a b)
-  twice : SFits w64 (pos 2 *ℤ remZ a b)
-  carry : SFits w64 (quotZ (pos 2 *ℤ remZ a b) b)
-  sum : SFits w64 (quotZ a b +ℤ quotZ (pos 2 *ℤ remZ a b) b)
+-- ---- what the words hold
 
-fit : (c : tie.Start) → Fit (c .args .a) (c .args .b)
-fit c =
-    let a = c .args .a in
-    let b = c .args .b in
-    let p = c .pre .0 in
-    let twice : SFits w64 (pos 2 *ℤ remZ a b) =
-    fits64 (pos 2 *ℤ remZ a b)
-    (omega (arith, abs-mul (pos 2) (remZ a b), rem-lt a b (size-pos b p), c .pre .1)) in
-    record {
-      dividend = c .fits .a;
-      divisor = c .fits .b;
-      quotient = quot-fits a b (c .fits .a) p;
-      rest = rem-fits a b (c .fits .a);
-      twice = twice;
-      carry = quot-fits (pos 2 *ℤ remZ a b) b twice p;
-      sum = rw (rnd-by-quotients a b p) (sfits-le (mag-rnd a (natAbs b) (size-pos b p)) (c .fits .a));
-    }
+a-held : (c : tie.Start) → toZ w64 (ofZ w64 (c .args .a)) ≡ c .args .a
+a-held c = toZ-ofZ (c .fits .a)
+
+b-held : (c : tie.Start) → toZ w64 (ofZ w64 (c .args .b)) ≡ c .args .b
+b-held c = toZ-ofZ (c .fits .b)
+
+quotient-held : (c : tie.Start) → toZ w64 (ofZ w64 (quotZ (c .args .a) (c .args .b))) ≡ quotZ (c .args .a) (c .args .b)
+quotient-held c = toZ-ofZ (quot-fits (c .args .a) (c .args .b) (c .fits .a) (c .pre .0))
+
+rest-held : (c : tie.Start) → toZ w64 (ofZ w64 (remZ (c .args .a) (c .args .b))) ≡ remZ (c .args .a) (c .args .b)
+rest-held c = toZ-ofZ (rem-fits (c .args .a) (c .args .b) (c .fits .a))
+
+ruleset held = (a-held, b-held, quotient-held, rest-held)
+
+step-is : (c : tie.After-step-away)
+    → toZ w64 (ofZ w64 (c .step-away .result))
+    ≡ quotZ (pos 2 *ℤ remZ (c .before .args .a) (c .before .args .b)) (c .before .args .b)
+step-is c = held64 (c .step-away .result) (c .step-away .ok) ∙ simp held at (c .step-away .ensures)
+
+-- ---- the needs
 
 div-result : tie.Need-div-result
 div-result c = quot-ok (c .args .a) (c .args .b) (c .fits .a) (c .fits .b) (c .pre .0)
 
-rem-result : tie.Need-rem-result
-rem-result c = div-result c
+rem-step-away : tie.Need-rem-step-away
+rem-step-away c = div-result c
 
-mul-result : tie.Need-mul-result
-mul-result c = let k = fit c in search needs
+step-away-requires : tie.Need-step-away-requires
+step-away-requires c κs =
+    let lt = rem-lt (c .args .a) (c .args .b) (size-pos (c .args .b) (c .pre .0)) in
+    simp held (c .pre .0, (c .pre .1, omega (arith, c .pre .1)))
 
-div-result-2 : tie.Need-div-result-2
-div-result-2 c = let k = fit c in (div-result c .0, search needs)
+sum-fits : (c : tie.Start)
+    → SFits w64 (quotZ (c .args .a) (c .args .b) +ℤ quotZ (pos 2 *ℤ remZ (c .args .a) (c .args .b)) (c .args .b))
+sum-fits c =
+    let b = c .args .b in
+    rw (rnd-by-quotients (c .args .a) b (c .pre .0))
+    (sfits-le (mag-rnd (c .args .a) (natAbs b) (size-pos b (c .pre .0))) (c .fits .a))
 
 add-result : tie.Need-add-result
-add-result c = let k = fit c in search needs
+add-result c = simp (held, step-is c) (sum-fits (c .before))
 
 returns : tie.Need-returns
 returns c =
-    let k = fit c in
-    rw (
-      toZ-ofZ (k .dividend),
-      toZ-ofZ (k .divisor),
-      toZ-ofZ (k .rest),
-      toZ-ofZ (k .twice),
-      toZ-ofZ (k .quotient),
-      toZ-ofZ (k .carry),
-      toZ-ofZ (k .sum),
-    )
-    (rnd-by-quotients (c .args .a) (c .args .b) (c .pre .0))
+    simp (held, step-is c, toZ-ofZ (sum-fits (c .before)))
+    (rnd-by-quotients (c .before .args .a) (c .before .args .b) (c .before .pre .0))
 
 pub rnd-quotient-spec : {M : Type 1} → statement M
-rnd-quotient-spec = tie.close (tie.spec div-result rem-result mul-result div-result-2 add-result returns)
+rnd-quotient-spec = tie.close (tie.spec div-result rem-step-away step-away-requires add-result returns)

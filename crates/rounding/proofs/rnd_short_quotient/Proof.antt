@@ -12,6 +12,7 @@ use Rattle.integers.specs.Sign.{neg-add-neg}
 use Rattle.words.specs.Holds.{Holds, bits, _/ʷ_, arg, lit, add, add-ok, sub, sub-ok, div, div-ok, div-lit}
 use Rattle.rules.specs.Rounding.{rnd}
 use Rattle.laws.specs.Rounding.{rnd-pos}
+use Rattle.rounding.specs.Given.{mostDividend}
 use Rattle.rounding.proofs.Half.{rndSize-by-half}
 use Rattle.rounding.proofs.rnd_short_quotient.Statement.{statement}
 use Rattle.rounding.proofs.rnd_short_quotient.Tie as tie
@@ -36,7 +37,7 @@ rnd-of-negative a (negsuc d) h t = absurd (h .lt)
 
 -- ---- what the word holds
 
-a-holds : (c : tie.Start) → Holds (bits (c .args .a)) (c .args .a) (2 ^ 62)
+a-holds : (c : tie.Start) → Holds (bits (c .args .a)) (c .args .a) mostDividend
 a-holds c = arg (c .args .a) (c .pre .0) tt
 
 b-holds : (c : tie.Start) → Holds (bits (c .args .b)) (c .args .b) (2 ^ 62)

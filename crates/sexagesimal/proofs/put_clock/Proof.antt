@@ -51,12 +51,6 @@ module _ (s : tie.Start) where
       (ap natAbs (toZ-ofZ (rem-fits (s .args .seconds) (pos 60) (s .fits .seconds)))
       ∙ abs-rem (s .args .seconds) (pos 60))
 
-div-put-digits : tie.Need-div-put-digits
-div-put-digits c = let s = c .before in divided-ok (s .args .seconds) 3600 (s .fits .seconds) (lit< tt)
-
-put-digits-requires : tie.Need-put-digits-requires
-put-digits-requires c κs = search needs
-
 module _ (c : tie.After-put-digits) where
   abbrev start : tie.Start
   start = c .before .before .before
@@ -68,6 +62,40 @@ module _ (c : tie.After-put-digits) where
       (c .put-digits .last .1 .1 .1 .0)
       (rw (divided-size (start .args .seconds) 3600 (start .fits .seconds) (lit< tt)) at (c .put-digits .ensures))
       (omega (arith, length-last-digits (start .args .width) (natAbs (start .args .seconds) / 3600)))
+
+module _ (c : tie.After-put-marked) where
+  abbrev d : tie.After-put-digits
+  d = c .before .before .before .before
+
+  put-2 : Put (start d .args .out .now) (start d .args .at) (hours (start d) ++ minutes (start d))
+      (c .put-marked .last .1 .1 .1 .1 .0) (c .put-marked .result)
+  put-2 =
+      more (put-1 d) (c .put-marked .result) (minutes (start d)) (c .put-marked .last .1 .1 .1 .1 .0)
+      (rw (minutes-is (start d)) at (c .put-marked .ensures .1))
+      (rw (minutes-is (start d)) at (c .put-marked .ensures .0))
+
+module _ (c : tie.After-put-marked2) where
+  abbrev m : tie.After-put-marked
+  m = c .before .before .before .before
+
+  abbrev s : tie.Start
+  s = start (d m)
+
+  put-3 : Put (s .args .out .now) (s .args .at) (clock (s .args .width) (natAbs (s .args .seconds)))
+      (c .put-marked2 .last .1 .1 .1 .1 .0) (c .put-marked2 .result)
+  unfolding clock
+  put-3 =
+      more (put-2 m) (c .put-marked2 .result) (seconds s) (c .put-marked2 .last .1 .1 .1 .1 .0)
+      (rw (seconds-is s) at (c .put-marked2 .ensures .1)) (rw (seconds-is s) at (c .put-marked2 .ensures .0))
+
+returns : tie.Need-returns
+returns c = let x = c .before .before in (put-3 x .end, put-3 x .bytes)
+
+div-put-digits : tie.Need-div-put-digits
+div-put-digits c = let s = c .before in divided-ok (s .args .seconds) 3600 (s .fits .seconds) (lit< tt)
+
+put-digits-requires : tie.Need-put-digits-requires
+put-digits-requires c κs = search needs
 
 div-put-marked : tie.Need-div-put-marked
 div-put-marked c = let s = start (c .before .before) in divided-ok (s .args .seconds) 60 (s .fits .seconds) (lit< tt)
@@ -85,17 +113,6 @@ add-put-marked c = search needs
 
 put-marked-requires : tie.Need-put-marked-requires
 put-marked-requires c κs = search needs
-
-module _ (c : tie.After-put-marked) where
-  abbrev d : tie.After-put-digits
-  d = c .before .before .before .before
-
-  put-2 : Put (start d .args .out .now) (start d .args .at) (hours (start d) ++ minutes (start d))
-      (c .put-marked .last .1 .1 .1 .1 .0) (c .put-marked .result)
-  put-2 =
-      more (put-1 d) (c .put-marked .result) (minutes (start d)) (c .put-marked .last .1 .1 .1 .1 .0)
-      (rw (minutes-is (start d)) at (c .put-marked .ensures .1))
-      (rw (minutes-is (start d)) at (c .put-marked .ensures .0))
 
 rem-put-marked-2 : tie.Need-rem-put-marked-2
 rem-put-marked-2 c =
@@ -118,25 +135,8 @@ put-marked-requires-2 c κs =
       ),
     )
 
-module _ (c : tie.After-put-marked2) where
-  abbrev m : tie.After-put-marked
-  m = c .before .before .before .before
-
-  abbrev s : tie.Start
-  s = start (d m)
-
-  put-3 : Put (s .args .out .now) (s .args .at) (clock (s .args .width) (natAbs (s .args .seconds)))
-      (c .put-marked2 .last .1 .1 .1 .1 .0) (c .put-marked2 .result)
-  unfolding clock
-  put-3 =
-      more (put-2 m) (c .put-marked2 .result) (seconds s) (c .put-marked2 .last .1 .1 .1 .1 .0)
-      (rw (seconds-is s) at (c .put-marked2 .ensures .1)) (rw (seconds-is s) at (c .put-marked2 .ensures .0))
-
 same-length : tie.Need-same-length
 same-length c = search needs
-
-returns : tie.Need-returns
-returns c = let x = c .before .before in (put-3 x .end, put-3 x .bytes)
 
 pub put-clock-spec : {M : Type 1} → statement M
 put-clock-spec =

@@ -20,26 +20,31 @@ use Rattle.sidereal.proofs.sidereal_of.Tie as tie
 t-held : (c : tie.Start) → toZ w64 (ofZ w64 (c .args .t .0)) ≡ c .args .t .0
 t-held c = instant-held (c .args .t .0) (c .pre)
 
-mean-holds : (c : tie.After-cubic)
-    → Holds (bits (c .cubic .result)) (siderealPolynomial (c .before .before .args .t)) (sizes siderealRow)
+mean-holds : (c : tie.After-sidereal-polynomial-of)
+    → Holds (bits (c .sidereal-polynomial-of .result)) (siderealPolynomial (c .before .args .t)) (sizes siderealRow)
 unfolding siderealPolynomial
 mean-holds c =
-    got (simp t-held at (c .cubic .ensures))
-    (polynomial-le siderealRow (c .before .before .args .t .0) (c .before .before .pre)) tt
+    got (c .sidereal-polynomial-of .ensures) (polynomial-le siderealRow (c .before .args .t .0) (c .before .pre)) tt
 
 time-holds : (c : tie.After-modulo-of)
-    → Holds (bits (c .modulo-of .result)) (pos (modulo (c .before .before .before .before .args .t .0) day)) day
+    → Holds (bits (c .modulo-of .result)) (pos (modulo (c .before .before .before .args .t .0) day)) day
 time-holds c =
     got (simp t-held at (c .modulo-of .ensures))
-    (omega (arith, modulo-lt (c .before .before .before .before .args .t .0) day (lit< tt))) tt
+    (omega (arith, modulo-lt (c .before .before .before .args .t .0) day (lit< tt))) tt
 
 turned-holds : (c : tie.After-modulo-of)
     → Holds (15000 *ʷ bits (c .modulo-of .result))
-    (pos 15000 *ℤ pos (modulo (c .before .before .before .before .args .t .0) day)) (15000 * day)
+    (pos 15000 *ℤ pos (modulo (c .before .before .before .args .t .0) day)) (15000 * day)
 turned-holds c = mul (lit 15000 tt) (time-holds c) tt
 
-cubic-requires : tie.Need-cubic-requires
-cubic-requires c κs = search needs
+returns : tie.Need-returns
+unfolding sidereal
+returns c =
+    search needs
+    ∙ rw (add (mean-holds (c .before .before .before)) (turned-holds (c .before)) tt .value) at (c .on-circle .ensures)
+
+sidereal-polynomial-of-requires : tie.Need-sidereal-polynomial-of-requires
+sidereal-polynomial-of-requires c κs = search needs
 
 modulo-of-requires : tie.Need-modulo-of-requires
 modulo-of-requires c κs = search needs
@@ -53,17 +58,11 @@ add-on-circle c = add-ok (mean-holds (c .before .before)) (turned-holds c) tt
 on-circle-requires : tie.Need-on-circle-requires
 on-circle-requires c κs = search needs
 
-returns : tie.Need-returns
-unfolding sidereal
-returns c =
-    search needs
-    ∙ rw (add (mean-holds (c .before .before .before)) (turned-holds (c .before)) tt .value) at (c .on-circle .ensures)
-
 pub sidereal-of-spec : {M : Type 1} → statement M
 sidereal-of-spec =
     tie.close
     (tie.spec
-    cubic-requires
+    sidereal-polynomial-of-requires
     modulo-of-requires
     mul-on-circle
     add-on-circle

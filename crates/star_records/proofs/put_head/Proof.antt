@@ -3,7 +3,8 @@ use mathlib.Core.List.{[], _∷_}
 use mathlib.Core.Path.{_≡_, _∙_}
 use Prim.Native.Nat.{_/_, _%_}
 use native.Mathlib.Omega.{arith}
-use lib.Seq.{lt-length-sets, sets-eq}
+use lib.ListN.{length-set}
+use lib.Seq.{sets-eq}
 use borrow.Author.Needs.{needs}
 use Rattle.star_bytes.specs.Puts.{put}
 use Rattle.star_records.proofs.put_head.Statement.{statement}
@@ -13,26 +14,25 @@ slice-write-room : tie.Need-slice-write-room
 slice-write-room c = search needs
 
 slice-write-room-2 : tie.Need-slice-write-room-2
-slice-write-room-2 c = lt-length-sets (c .args .room .now) 0 (83 ∷ []) (omega (arith, c .pre .0))
+slice-write-room-2 c = simp length-set (omega (arith, c .pre .0))
 
 slice-write-room-3 : tie.Need-slice-write-room-3
-slice-write-room-3 c = lt-length-sets (c .args .room .now) 0 (83 ∷ 76 ∷ []) (omega (arith, c .pre .0))
+slice-write-room-3 c = simp length-set (omega (arith, c .pre .0))
 
 slice-write-room-4 : tie.Need-slice-write-room-4
-slice-write-room-4 c = lt-length-sets (c .args .room .now) 0 (83 ∷ 76 ∷ 84 ∷ []) (omega (arith, c .pre .0))
+slice-write-room-4 c = simp length-set (omega (arith, c .pre .0))
 
 slice-write-room-5 : tie.Need-slice-write-room-5
-slice-write-room-5 c = lt-length-sets (c .args .room .now) 0 (83 ∷ 76 ∷ 84 ∷ 1 ∷ []) (omega (arith, c .pre .0))
+slice-write-room-5 c = simp length-set (omega (arith, c .pre .0))
 
 cast-room : tie.Need-cast-room
 cast-room c = search needs
 
 slice-write-room-6 : tie.Need-slice-write-room-6
-slice-write-room-6 c = lt-length-sets (c .args .room .now) 0 (83 ∷ 76 ∷ 84 ∷ 1 ∷ 0 ∷ []) (omega (arith, c .pre .0))
+slice-write-room-6 c = simp length-set (omega (arith, c .pre .0))
 
 slice-write-room-7 : tie.Need-slice-write-room-7
-slice-write-room-7 c = lt-length-sets (c .args .room .now) 0 (83 ∷ 76 ∷ 84 ∷ 1 ∷ 0 ∷ c .args .count ∷ [])
-    (omega (arith, c .pre .0))
+slice-write-room-7 c = simp length-set (omega (arith, c .pre .0))
 
 same-length : tie.Need-same-length
 same-length c = search needs

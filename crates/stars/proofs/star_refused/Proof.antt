@@ -8,6 +8,17 @@ use Rattle.stars.specs.Numbers.{starOf}
 use Rattle.stars.proofs.star_refused.Statement.{statement}
 use Rattle.stars.proofs.star_refused.Tie as tie
 
+returns : tie.Need-returns
+returns c =
+    let s = c .before .before .before .before .before .before .before .args .star in
+    let given = c .before .struct-told4 .given in
+    let ra = held64 (s .ra) (given .0 .1) in
+    let declination = held64 (s .declination) (given .1 .0 .1) in
+    let ra-motion = widened (s .«ra_motion») (sfits-of (given .1 .1 .0 .1)) .value in
+    let declination-motion = widened (s .«declination_motion») (sfits-of (given .1 .1 .1 .0 .1)) .value in
+    c .numbers-refused .ensures
+    ∙ (λ i. starRefused (starOf (ra i) (declination i) (ra-motion i) (declination-motion i)))
+
 cast-numbers-refused : tie.Need-cast-numbers-refused
 cast-numbers-refused c =
     widened-ok (c .before .before .args .star .«ra_motion») (sfits-of (c .struct-told .given .1 .1 .0 .1))
@@ -19,17 +30,6 @@ cast-numbers-refused-2 c =
 
 numbers-refused-requires : tie.Need-numbers-refused-requires
 numbers-refused-requires c κs = search needs
-
-returns : tie.Need-returns
-returns c =
-    let s = c .before .before .before .before .before .before .before .args .star in
-    let given = c .before .struct-told4 .given in
-    let ra = held64 (s .ra) (given .0 .1) in
-    let declination = held64 (s .declination) (given .1 .0 .1) in
-    let ra-motion = widened (s .«ra_motion») (sfits-of (given .1 .1 .0 .1)) .value in
-    let declination-motion = widened (s .«declination_motion») (sfits-of (given .1 .1 .1 .0 .1)) .value in
-    c .numbers-refused .ensures
-    ∙ (λ i. starRefused (starOf (ra i) (declination i) (ra-motion i) (declination-motion i)))
 
 pub star-refused-spec : {M : Type 1} → statement M
 star-refused-spec =

@@ -35,26 +35,6 @@ declination-motion-held c =
 
 -- ---- step 1
 
-moved-requires : tie.Need-moved-requires
-moved-requires c κs =
-    let start = c .before .before .before in
-    let k = ranges start in
-    rw (ra-held start, ra-motion-held start) (record {
-      instant = start .pre .night .instant;
-      angle-le = omega (arith, k .ra-le);
-      motion-le = omega (arith, k .ra-motion-le);
-    })
-
-moved-requires-2 : tie.Need-moved-requires-2
-moved-requires-2 c κs =
-    let start = c .before .before .before .before .before .before in
-    let k = ranges start in
-    rw (declination-held start, declination-motion-held start) (record {
-      instant = start .pre .night .instant;
-      angle-le = omega (arith, k .declination-le);
-      motion-le = omega (arith, k .declination-motion-le);
-    })
-
 abbrev ra : tie.Start → ℤ
 ra c = moved (c .args .n .tt) (c .args .s .ra) (c .args .s .«ra_motion»)
 
@@ -75,6 +55,54 @@ declination-is c =
 
 -- ---- steps 2 to 5
 
+abbrev second : tie.Start → Direction
+second c = directed (ra c) (declination c)
+
+second-is : (c : tie.After-directed)
+    → c .directed .result ≡ second (c .before .before .before .before .before .before .before .before)
+second-is c =
+    rw (ra-is (c .before .before .before .before), declination-is (c .before)) at (c .directed .ensures)
+
+abbrev third : tie.Start → Direction
+third c = precessed (c .args .n) (second c)
+
+third-is : (c : tie.After-precessed)
+    → c .precessed .result ≡ third (c .before .before .before .before .before .before .before .before .before)
+third-is c = c .precessed .ensures ∙ ap (precessed _) (second-is (c .before))
+
+abbrev fourth : tie.Start → Direction
+fourth c = aberrated (c .args .n) (third c)
+
+fourth-is : (c : tie.After-aberrated)
+    → c .aberrated .result ≡ fourth (c .before .before .before .before .before .before .before .before .before .before)
+fourth-is c = c .aberrated .ensures ∙ ap (aberrated _) (third-is (c .before))
+
+returns : tie.Need-returns
+unfolding apparent
+returns c = c .nutated .ensures ∙ ap (nutated _) (fourth-is (c .before))
+
+-- ---- what each operation and call asks
+
+moved-requires : tie.Need-moved-requires
+moved-requires c κs =
+    let start = c .before .before .before in
+    let k = ranges start in
+    rw (ra-held start, ra-motion-held start) (record {
+      instant = start .pre .night .instant;
+      angle-le = omega (arith, k .ra-le);
+      motion-le = omega (arith, k .ra-motion-le);
+    })
+
+moved-requires-2 : tie.Need-moved-requires-2
+moved-requires-2 c κs =
+    let start = c .before .before .before .before .before .before in
+    let k = ranges start in
+    rw (declination-held start, declination-motion-held start) (record {
+      instant = start .pre .night .instant;
+      angle-le = omega (arith, k .declination-le);
+      motion-le = omega (arith, k .declination-motion-le);
+    })
+
 directed-requires : tie.Need-directed-requires
 directed-requires c κs =
     let start = c .before .before .before .before .before .before .before in
@@ -91,14 +119,6 @@ directed-requires c κs =
       );
     })
 
-abbrev second : tie.Start → Direction
-second c = directed (ra c) (declination c)
-
-second-is : (c : tie.After-directed)
-    → c .directed .result ≡ second (c .before .before .before .before .before .before .before .before)
-second-is c =
-    rw (ra-is (c .before .before .before .before), declination-is (c .before)) at (c .directed .ensures)
-
 precessed-requires : tie.Need-precessed-requires
 precessed-requires c κs =
     let start = c .before .before .before .before .before .before .before .before in
@@ -106,13 +126,6 @@ precessed-requires c κs =
       night = start .pre .night;
       direction = rw (second-is c) (directed-accepted (ra start) (declination start));
     }
-
-abbrev third : tie.Start → Direction
-third c = precessed (c .args .n) (second c)
-
-third-is : (c : tie.After-precessed)
-    → c .precessed .result ≡ third (c .before .before .before .before .before .before .before .before .before)
-third-is c = c .precessed .ensures ∙ ap (precessed _) (second-is (c .before))
 
 aberrated-requires : tie.Need-aberrated-requires
 aberrated-requires c κs =
@@ -122,13 +135,6 @@ aberrated-requires c κs =
       direction = rw (third-is c) (precessed-accepted (start .args .n) (start .pre .night) (second start)
           (directed-accepted (ra start) (declination start)));
     }
-
-abbrev fourth : tie.Start → Direction
-fourth c = aberrated (c .args .n) (third c)
-
-fourth-is : (c : tie.After-aberrated)
-    → c .aberrated .result ≡ fourth (c .before .before .before .before .before .before .before .before .before .before)
-fourth-is c = c .aberrated .ensures ∙ ap (aberrated _) (third-is (c .before))
 
 nutated-requires : tie.Need-nutated-requires
 nutated-requires c κs =
@@ -140,10 +146,6 @@ nutated-requires c κs =
       direction = rw (fourth-is c) (aberrated-accepted n fits (third start)
           (precessed-accepted n fits (second start) (directed-accepted (ra start) (declination start))));
     }
-
-returns : tie.Need-returns
-unfolding apparent
-returns c = c .nutated .ensures ∙ ap (nutated _) (fourth-is (c .before))
 
 pub apparent-spec : {M : Type 1} → statement M
 apparent-spec =

@@ -26,17 +26,11 @@ module _ (c : tie.Start) where
       most
   sum = sub (add (mul day (lit 86400000 tt) tt) ms tt) (lit 43200000 tt) tt
 
-utc-ms-requires : tie.Need-utc-ms-requires
-utc-ms-requires c κs = rw (day c .value, ms c .value) (c .pre .day-le, c .pre .ms-le)
-
 utc : (c : tie.After-utc-ms) → Holds (bits (c .utc-ms .result)) (utcAt (c .before .args .day) (c .before .args .ms))
     most
 utc c =
     let s = c .before in
     got (rw (day s .value, ms s .value) at (c .utc-ms .ensures)) (sum s .size) tt
-
-tai-minus-utc-requires : tie.Need-tai-minus-utc-requires
-tai-minus-utc-requires c κs = search needs
 
 module _ (c : tie.After-tai-minus-utc) where
   abbrev n : ℤ
@@ -52,6 +46,19 @@ module _ (c : tie.After-tai-minus-utc) where
       (32184 + 1000 * 37)
   added = add (lit 32184 tt) tai-ms tt
 
+returns : tie.Need-returns
+returns c = rw (
+  add (utc (c .before)) (difference (c .before .before)) tt .value,
+  add (utc (c .before)) (added c) tt
+      .value,
+)
+
+utc-ms-requires : tie.Need-utc-ms-requires
+utc-ms-requires c κs = rw (day c .value, ms c .value) (c .pre .day-le, c .pre .ms-le)
+
+tai-minus-utc-requires : tie.Need-tai-minus-utc-requires
+tai-minus-utc-requires c κs = search needs
+
 mul-tt : tie.Need-mul-tt
 mul-tt c = mul-ok (lit 1000 tt) (tai c) tt
 
@@ -63,13 +70,6 @@ add-tt-2 c = add-ok (utc (c .before)) (added c) tt
 
 add-t6 : tie.Need-add-t6
 add-t6 c = add-ok (utc (c .before)) (difference (c .before .before)) tt
-
-returns : tie.Need-returns
-returns c = rw (
-  add (utc (c .before)) (difference (c .before .before)) tt .value,
-  add (utc (c .before)) (added c) tt
-      .value,
-)
 
 pub instants-at-spec : {M : Type 1} → statement M
 instants-at-spec =

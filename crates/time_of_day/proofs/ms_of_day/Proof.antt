@@ -39,6 +39,10 @@ module _ (c : tie.Start) where
       (((23 * 60 + 59) * 60 + 60) * 1000)
   in-ms = mul seconds (lit 1000 tt) tt
 
+returns : tie.Need-returns
+unfolding msOfDay
+returns c = add (in-ms c) (ms c) tt .value
+
 mul-result : tie.Need-mul-result
 mul-result c = mul-ok (hour c) (lit 60 tt) tt
 
@@ -56,10 +60,6 @@ mul-result-3 c = mul-ok (seconds c) (lit 1000 tt) tt
 
 add-result-3 : tie.Need-add-result-3
 add-result-3 c = add-ok (in-ms c) (ms c) tt
-
-returns : tie.Need-returns
-unfolding msOfDay
-returns c = add (in-ms c) (ms c) tt .value
 
 pub ms-of-day-spec : {M : Type 1} → statement M
 ms-of-day-spec =

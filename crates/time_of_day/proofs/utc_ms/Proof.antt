@@ -19,6 +19,9 @@ module _ (c : tie.Start) where
       (36524 * 86400000 + 86400999)
   sum = add days ms tt
 
+returns : tie.Need-returns
+returns c = sub (sum c) (lit 43200000 tt) tt .value
+
 mul-result : tie.Need-mul-result
 mul-result c = mul-ok (day c) (lit 86400000 tt) tt
 
@@ -27,9 +30,6 @@ add-result c = add-ok (days c) (ms c) tt
 
 sub-result : tie.Need-sub-result
 sub-result c = sub-ok (sum c) (lit 43200000 tt) tt
-
-returns : tie.Need-returns
-returns c = sub (sum c) (lit 43200000 tt) tt .value
 
 pub utc-ms-spec : {M : Type 1} → statement M
 utc-ms-spec = tie.close (tie.spec mul-result add-result sub-result returns)

@@ -1,91 +1,79 @@
--- `times::main` is safe and ends: the turns fall.
-use mathlib.Core.Path.{_≡_}
-use mathlib.Core.Logic.{⊎-elim}
-use Prim.Native.Nat.{ℕ, _-_, _^_, _≤_, _<_}
+-- `times::main` is safe and ends: the header has room, and is handed out as it stands there.
+use mathlib.Core.Path.{_≡_, sym, ap, subst, _∙_}
 use native.Mathlib.Omega.{arith}
-use lib.IntN.{pos}
+use lib.ListN.{length, take}
 use borrow.Author.Needs.{needs}
-use borrow.Author.Tests.{ltb-true}
-use Rattle.integers.specs.Difference.{pos-sub}
-use Rattle.words.specs.Holds.{Holds, _-ʷ_, nat, lit, sub-to-ok}
+use Rattle.line_reads.specs.Reads.{headerLine}
+use Rattle.line_reads.specs.Lengths.{header-le}
+use Rattle.line_reads.specs.Rooms.{front-of}
+use Rattle.times.specs.Turns.{Handed, header}
 use Rattle.times.proofs.main.Statement.{statement}
 use Rattle.times.proofs.main.Tie as tie
 
-abbrev most : ℕ
-most = 2 ^ 63 - 1
+arg-count-requires : tie.Need-arg-count-requires
+arg-count-requires c κs = search needs
 
-abbrev Inv-loop : tie.InvT-loop
-Inv-loop line₀ turns₀ line turns = (turns ≤ most) × (line .len ≤ 32)
-
-abbrev μ-loop : tie.MeasureT-loop
-μ-loop line₀ turns₀ line turns = turns
-
-slice-aggregate-write-all : tie.Need-slice-aggregate-write-all Inv-loop μ-loop
+slice-aggregate-write-all : tie.Need-slice-aggregate-write-all
 slice-aggregate-write-all c = search needs
 
-write-all-requires : tie.Need-write-all-requires Inv-loop μ-loop
+write-all-requires : tie.Need-write-all-requires
 write-all-requires c κs = search needs
 
-empty-requires : tie.Need-empty-requires Inv-loop μ-loop
-empty-requires c κs = search needs
-
-loop-holds : tie.Need-loop-holds Inv-loop μ-loop
-loop-holds c = search needs
-
-read-some-requires : tie.Need-read-some-requires Inv-loop μ-loop
-read-some-requires c κs = search needs
-
-turns : (c : tie.At-loop Inv-loop μ-loop) → Holds (c .loop .turns) (pos (c .loop .turns)) most
-turns c = nat (c .loop .turns) (c .loop .inv .0) tt
-
-left : (c : tie.In-loop Inv-loop μ-loop) → 0 < c .before .loop .turns
-left c = ltb-true 0 (c .before .loop .turns) (rw (turns (c .before) .value) at (c .loop-test .taken))
-
-fewer : (c : tie.In-loop Inv-loop μ-loop) → c .before .loop .turns -ʷ 1 ≡ c .before .loop .turns - 1
-fewer c = rw (turns (c .before) .value, pos-sub (c .before .loop .turns) 1 (left c))
-
-sub-turns : tie.Need-sub-turns Inv-loop μ-loop
-sub-turns c =
-    let i = c .before .before .before .before in
-    let n = i .before .loop .turns in
-    sub-to-ok (turns (i .before)) (lit 1 tt) most (rw (pos-sub n 1 (left i)) (omega (arith, i .before .loop .inv .0)))
-    tt
-
-loop-less : tie.Need-loop-less Inv-loop μ-loop
-loop-less c =
-    let i = c .before .before .before .before in
-    omega (arith, fewer i, left i)
-
-loop-again : tie.Need-loop-again Inv-loop μ-loop
-loop-again c =
-    let i = c .before .before .before .before in
-    (omega (arith, fewer i, i .before .loop .inv .0), c .before .before .before .read-some .ensures)
-
-answer-requires : tie.Need-answer-requires Inv-loop μ-loop
-answer-requires c κs =
-    let l = c .before .before in
-    ⊎-elim (λ w. rw (w .1) (l .before .loop .inv .1)) (λ w. rw (w .5) (w .1 .ensures)) (l .loop-test .came)
-
-returns : tie.Need-returns Inv-loop μ-loop
+returns : tie.Need-returns
 returns c = search needs
 
-returns-2 : tie.Need-returns-2 Inv-loop μ-loop
+is-readable-requires : tie.Need-is-readable-requires
+is-readable-requires c κs = search needs
+
+slice-aggregate-fail : tie.Need-slice-aggregate-fail
+slice-aggregate-fail c = search needs
+
+fail-requires : tie.Need-fail-requires
+fail-requires c κs = search needs
+
+returns-2 : tie.Need-returns-2
 returns-2 c = search needs
+
+large-buffer-requires : tie.Need-large-buffer-requires
+large-buffer-requires c κs = search needs
+
+begin-requires : tie.Need-begin-requires
+begin-requires c κs = search needs
+
+hand-out-requires : tie.Need-hand-out-requires
+hand-out-requires c κs =
+    let b = c .before in
+    let e = ap (λ s. s .written) (b .begin .ensures .0) in
+    let f : take (b .begin .result .written) (b .begin .last .0) ≡ headerLine =
+    ap (λ n. take n (b .begin .last .0)) e
+    ∙ ap (take (length headerLine)) (b .begin .ensures .1)
+    ∙ front-of headerLine _ in
+    (omega (arith, header-le), subst Handed (sym f) header)
+
+answer-all-requires : tie.Need-answer-all-requires
+answer-all-requires c κs = search needs
+
+returns-3 : tie.Need-returns-3
+returns-3 c = search needs
+
+returns-4 : tie.Need-returns-4
+returns-4 c = search needs
 
 pub main-spec : {M : Type 1} → statement M
 main-spec =
     tie.close
     (tie.spec
-    Inv-loop
-    μ-loop
+    arg-count-requires
     slice-aggregate-write-all
     write-all-requires
-    empty-requires
-    loop-holds
-    read-some-requires
-    sub-turns
-    loop-less
-    loop-again
-    answer-requires
     returns
-    returns-2)
+    is-readable-requires
+    slice-aggregate-fail
+    fail-requires
+    returns-2
+    large-buffer-requires
+    begin-requires
+    hand-out-requires
+    answer-all-requires
+    returns-3
+    returns-4)

@@ -1,6 +1,6 @@
 -- `writing_plan::write_plan` meets its contract.
 use borrow.Author.Needs.{needs}
-use borrow.Author.Tests.{eq-eqb, ne-eqb, lt-ltb, le-ltb}
+use borrow.Author.Tests.{lt-ltb, le-ltb}
 use Rattle.rules.specs.StarList.{fileLength}
 use Rattle.rules.specs.ListReading.{leaving}
 use Rattle.rules.specs.ListWriting.{roomRefused, writtenOf}
@@ -11,11 +11,13 @@ use Rattle.writing_plan.proofs.write_plan.Tie as tie
 
 returns : tie.Need-returns
 unfolding writePlan planOf writtenOf leaving
-returns c = simp (ne-eqb _ _ (c .if1 .taken))
+returns c = let refused = c .if1 .taken in simp refused
 
 returns-2 : tie.Need-returns-2
 unfolding writePlan planOf writtenOf roomRefused leaving
-returns-2 c = simp (eq-eqb _ _ (c .before .if1 .left), lt-ltb _ _ (c .if2 .taken))
+returns-2 c =
+    let accepted = c .before .if1 .left in
+    simp (accepted, lt-ltb _ _ (c .if2 .taken))
 
 mul-if3 : tie.Need-mul-if3
 mul-if3 c = search needs
@@ -25,12 +27,9 @@ add-if3 c = search needs
 
 returns-3 : tie.Need-returns-3
 unfolding writePlan planOf writtenOf roomRefused fileLength leaving
-returns-3 c = simp (
-  eq-eqb _ _ (c .before .before .if1 .left),
-  le-ltb _ _ (c .before .if2 .left),
-  lt-ltb _ _
-      (c .if3 .taken),
-)
+returns-3 c =
+    let accepted = c .before .before .if1 .left in
+    simp (accepted, le-ltb _ _ (c .before .if2 .left), lt-ltb _ _ (c .if3 .taken))
 
 mul-t9 : tie.Need-mul-t9
 mul-t9 c = search needs
@@ -40,12 +39,9 @@ add-t10 c = search needs
 
 returns-4 : tie.Need-returns-4
 unfolding writePlan planOf writtenOf roomRefused fileLength leaving
-returns-4 c = simp (
-  eq-eqb _ _ (c .before .before .if1 .left),
-  le-ltb _ _ (c .before .if2 .left),
-  le-ltb _ _
-      (c .if3 .left),
-)
+returns-4 c =
+    let accepted = c .before .before .if1 .left in
+    simp (accepted, le-ltb _ _ (c .before .if2 .left), le-ltb _ _ (c .if3 .left))
 
 pub write-plan-spec : {M : Type 1} → statement M
 write-plan-spec =

@@ -7,6 +7,13 @@ use Rattle.laws.specs.Calendar.{row-days-le}
 use Rattle.years.proofs.month_days.Statement.{statement}
 use Rattle.years.proofs.month_days.Tie as tie
 
+returns : tie.Need-returns
+returns c = toZ-pos w64 (omega (
+  arith,
+  row-days-le (c .before .args .leap) (c .before .args .month)
+      (c .before .pre .0) (c .before .pre .1),
+))
+
 mul-result : tie.Need-mul-result
 mul-result c = search needs
 
@@ -24,13 +31,6 @@ cast-result c = record {
         (c .before .pre .0) (c .before .pre .1),
   );
 }
-
-returns : tie.Need-returns
-returns c = toZ-pos w64 (omega (
-  arith,
-  row-days-le (c .before .args .leap) (c .before .args .month)
-      (c .before .pre .0) (c .before .pre .1),
-))
 
 pub month-days-spec : {M : Type 1} → statement M
 month-days-spec = tie.close (tie.spec mul-result index-1-result index-2-result cast-result returns)

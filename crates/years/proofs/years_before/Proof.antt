@@ -28,6 +28,10 @@ module _ (c : tie.Start) where
   leaps : Holds ((bits (c .args .year) -ʷ 1969) /ʷ 4) (pos ((y - 1969) / 4)) (2099 / 4)
   leaps = div-lit 4 quarters tt tt tt
 
+returns : tie.Need-returns
+returns c = add (days c) (leaps c) tt .value ∙ ap pos
+    (omega (arith, years-before (y c - 1972) (omega (arith, c .pre .at-most)), c .pre .at-least))
+
 sub-result : tie.Need-sub-result
 sub-result c = sub-ok (year c) (lit 1972 tt) tt
 
@@ -42,10 +46,6 @@ div-result c = div-ok (quarters c) (lit 4 tt) (record { lt = tt }) tt
 
 add-result : tie.Need-add-result
 add-result c = add-ok (days c) (leaps c) tt
-
-returns : tie.Need-returns
-returns c = add (days c) (leaps c) tt .value ∙ ap pos
-    (omega (arith, years-before (y c - 1972) (omega (arith, c .pre .at-most)), c .pre .at-least))
 
 pub years-before-spec : {M : Type 1} → statement M
 years-before-spec = tie.close (tie.spec sub-result mul-result sub-result-2 div-result add-result returns)

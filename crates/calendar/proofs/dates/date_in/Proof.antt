@@ -41,13 +41,6 @@ Inv-loop year days l rest₀ k₀ rest k = (k ≤ 11) × (sum (take k (row l)) +
 abbrev μ-loop : tie.MeasureT-loop
 μ-loop year days l rest₀ k₀ rest k = 11 - k
 
-leap-requires : tie.Need-leap-requires Inv-loop μ-loop
-leap-requires c κs = search needs
-
-loop-holds : tie.Need-loop-holds Inv-loop μ-loop
-unfolding sum
-loop-holds c = search needs
-
 -- what is known where the loop stands
 module _ (c : tie.At-loop Inv-loop μ-loop) where
   abbrev s : tie.Start Inv-loop μ-loop
@@ -102,27 +95,9 @@ module _ (c : tie.At-loop Inv-loop μ-loop) where
   day-is : toZ w32 (ofZ w32 (pos 1 +ℤ toZ w32 (ofZ w32 (toZ w64 (c .loop .rest))))) ≡ pos (1 + c .loop .rest)
   day-is = rw (rest c .value) (more (c .loop .rest) (rest-le c))
 
-month-days-requires : tie.Need-month-days-requires Inv-loop μ-loop
-month-days-requires c κs = (l-lt (c .before), omega arith)
-
 length : (c : tie.After-month-days Inv-loop μ-loop)
     → Holds (bits (c .month-days .result)) (pos (getD (row (l (c .before .before))) (c .before .before .loop .k) 0)) 31
 length c = got (c .month-days .ensures) (row-days-le _ _ (l-lt (c .before .before)) (omega arith)) tt
-
-cast-t8 : tie.Need-cast-t8 Inv-loop μ-loop
-cast-t8 c = year32 (c .before .before .before)
-
-cast-t9 : tie.Need-cast-t9 Inv-loop μ-loop
-cast-t9 c = small (c .before .before .before .loop .k) (omega arith)
-
-add-t10 : tie.Need-add-t10 Inv-loop μ-loop
-add-t10 c = more-fits (c .before .before .before .loop .k) (omega arith)
-
-cast-t11 : tie.Need-cast-t11 Inv-loop μ-loop
-cast-t11 c = rest32 (c .before .before .before)
-
-add-t12 : tie.Need-add-t12 Inv-loop μ-loop
-add-t12 c = day32 (c .before .before .before)
 
 returns : tie.Need-returns Inv-loop μ-loop
 returns c =
@@ -131,15 +106,6 @@ returns c =
     rw (rest a .value, length (c .before) .value) at (c .if1 .taken) in
     rw (year-is a, more (a .loop .k) (omega arith), day-is a)
     (sym (date-in-row (y a) (l a) (a .loop .k) (a .loop .rest) (days a) (l-is a) (ltb-true _ _ t) (whole a)))
-
-sub-rest : tie.Need-sub-rest Inv-loop μ-loop
-sub-rest c = sub-ok (rest (c .before .before .before)) (length (c .before)) tt
-
-add-k : tie.Need-add-k Inv-loop μ-loop
-add-k c = omega arith
-
-loop-less : tie.Need-loop-less Inv-loop μ-loop
-loop-less c = omega arith
 
 -- the month is not longer than the rest
 passed : (c : tie.Else1 Inv-loop μ-loop)
@@ -158,6 +124,53 @@ rest-bits c =
     let a = c .before .before .before in
     rw (rest a .value, length (c .before) .value, pos-sub (a .loop .rest) (getD (row (l a)) (a .loop .k) 0) (passed c))
 
+at-end : (l k rest n : ℕ) → k ≡ 11 → sum (take k (row l)) + rest ≡ n → sum (take 11 (row l)) + rest ≡ n
+at-end l k rest n e w = rw e at w
+
+returns-2 : tie.Need-returns-2 Inv-loop μ-loop
+returns-2 c =
+    let a = c .before in
+    let w = at-end (l a) (a .loop .k) (a .loop .rest) (days a) (omega arith) (whole a) in
+    let r : a .loop .rest < getD (row (l a)) 11 0 =
+    omega (arith, days-lt a, row-whole (l a) (l-lt a), sum-take-suc (row (l a)) 11) in
+    rw (year-is a, day-is a) (sym (date-in-row (y a) (l a) 11 (a .loop .rest) (days a) (l-is a) r w))
+
+-- ---- what each operation and call asks
+
+leap-requires : tie.Need-leap-requires Inv-loop μ-loop
+leap-requires c κs = search needs
+
+loop-holds : tie.Need-loop-holds Inv-loop μ-loop
+unfolding sum
+loop-holds c = search needs
+
+month-days-requires : tie.Need-month-days-requires Inv-loop μ-loop
+month-days-requires c κs = (l-lt (c .before), omega arith)
+
+cast-t8 : tie.Need-cast-t8 Inv-loop μ-loop
+cast-t8 c = year32 (c .before .before .before)
+
+cast-t9 : tie.Need-cast-t9 Inv-loop μ-loop
+cast-t9 c = small (c .before .before .before .loop .k) (omega arith)
+
+add-t10 : tie.Need-add-t10 Inv-loop μ-loop
+add-t10 c = more-fits (c .before .before .before .loop .k) (omega arith)
+
+cast-t11 : tie.Need-cast-t11 Inv-loop μ-loop
+cast-t11 c = rest32 (c .before .before .before)
+
+add-t12 : tie.Need-add-t12 Inv-loop μ-loop
+add-t12 c = day32 (c .before .before .before)
+
+sub-rest : tie.Need-sub-rest Inv-loop μ-loop
+sub-rest c = sub-ok (rest (c .before .before .before)) (length (c .before)) tt
+
+add-k : tie.Need-add-k Inv-loop μ-loop
+add-k c = omega arith
+
+loop-less : tie.Need-loop-less Inv-loop μ-loop
+loop-less c = omega arith
+
 loop-again : tie.Need-loop-again Inv-loop μ-loop
 loop-again c = (
   omega arith,
@@ -173,17 +186,6 @@ cast-t14 c = rest32 (c .before)
 
 add-t15 : tie.Need-add-t15 Inv-loop μ-loop
 add-t15 c = day32 (c .before)
-
-at-end : (l k rest n : ℕ) → k ≡ 11 → sum (take k (row l)) + rest ≡ n → sum (take 11 (row l)) + rest ≡ n
-at-end l k rest n e w = rw e at w
-
-returns-2 : tie.Need-returns-2 Inv-loop μ-loop
-returns-2 c =
-    let a = c .before in
-    let w = at-end (l a) (a .loop .k) (a .loop .rest) (days a) (omega arith) (whole a) in
-    let r : a .loop .rest < getD (row (l a)) 11 0 =
-    omega (arith, days-lt a, row-whole (l a) (l-lt a), sum-take-suc (row (l a)) 11) in
-    rw (year-is a, day-is a) (sym (date-in-row (y a) (l a) 11 (a .loop .rest) (days a) (l-is a) r w))
 
 pub date-in-spec : {M : Type 1} → statement M
 date-in-spec =

@@ -43,31 +43,8 @@ module _ (c : tie.Start) where
   days : Holds (bits (c .args .day) -ʷ 1) (pos (d - 1)) 31
   days = sub-nat day (lit 1 tt) (c .pre .real .day-ge) tt
 
-leap-requires : tie.Need-leap-requires
-leap-requires c κs = search needs
-
-sub-months-before : tie.Need-sub-months-before
-sub-months-before c = sub-ok (month (c .before)) (lit 1 tt) tt
-
-cast-months-before : tie.Need-cast-months-before
-cast-months-before c = rw (before (c .before) .value) (tt, record { fits = omega (arith, before (c .before) .size) })
-
 row-is : (c : tie.After-leap) → c .leap .result ≡ leap (y (c .before))
 row-is c = rw (toZ-ofZ (c .before .fits .year)) at (c .leap .ensures)
-
-months-before-requires : tie.Need-months-before-requires
-months-before-requires c κs =
-    rw (before (c .before) .value, row-is c) (leap-lt (y (c .before)), before (c .before) .size)
-
-years-before-requires : tie.Need-years-before-requires
-years-before-requires c κs =
-    let s = c .before .before in
-    rw (toZ-ofZ (s .fits .year)) (record {
-      is = s .pre .year-is;
-      at-least = s .pre .real .year-ge;
-      at-most = s .pre
-          .real .year-le;
-    })
 
 in-months : (c : tie.After-months-before)
     → Holds (bits (c .months-before .result)) (pos
@@ -93,6 +70,33 @@ module _ (c : tie.After-years-before) where
       (pos (sum (take (y s - 1972) years) + sum (take (m s - 1) (months (y s))) + (d s - 1))) (46752 + 366 + 31)
   count = add first (days s) tt
 
+returns : tie.Need-returns
+unfolding dayCount
+returns c = rw (day-number-is) (sub (count c) (lit 10227 tt) tt .value)
+
+leap-requires : tie.Need-leap-requires
+leap-requires c κs = search needs
+
+sub-months-before : tie.Need-sub-months-before
+sub-months-before c = sub-ok (month (c .before)) (lit 1 tt) tt
+
+cast-months-before : tie.Need-cast-months-before
+cast-months-before c = rw (before (c .before) .value) (tt, record { fits = omega (arith, before (c .before) .size) })
+
+months-before-requires : tie.Need-months-before-requires
+months-before-requires c κs =
+    rw (before (c .before) .value, row-is c) (leap-lt (y (c .before)), before (c .before) .size)
+
+years-before-requires : tie.Need-years-before-requires
+years-before-requires c κs =
+    let s = c .before .before in
+    rw (toZ-ofZ (s .fits .year)) (record {
+      is = s .pre .year-is;
+      at-least = s .pre .real .year-ge;
+      at-most = s .pre
+          .real .year-le;
+    })
+
 add-result : tie.Need-add-result
 add-result c = add-ok (in-years c) (in-months (c .before)) tt
 
@@ -104,10 +108,6 @@ add-result-2 c = add-ok (first c) (days (c .before .before .before)) tt
 
 sub-result-2 : tie.Need-sub-result-2
 sub-result-2 c = sub-ok (count c) (lit 10227 tt) tt
-
-returns : tie.Need-returns
-unfolding dayCount
-returns c = rw (day-number-is) (sub (count c) (lit 10227 tt) tt .value)
 
 pub day-number-spec : {M : Type 1} → statement M
 day-number-spec =

@@ -12,6 +12,24 @@ use Rattle.inner_answers.specs.Dates.{innerDate}
 use Rattle.inner_answers.proofs.days.date_out.Statement.{statement}
 use Rattle.inner_answers.proofs.days.date_out.Tie as tie
 
+returns : tie.Need-returns
+unfolding innerDate datedAnswer given
+returns c =
+    let d : Date = c .before .before .before .before .before .before .before .a .given .0 .0 in
+    let y : SFits w32 (d .year) = search needs in
+    let m : SFits w32 (d .month) = search needs in
+    let n : SFits w32 (d .day) = search needs in
+    rw (
+      c .before .before .before .before .before .before .before .a .given .1,
+      widened (d .year) y .value,
+      widened (d .month) m .value,
+      widened (d .day) n .value,
+    )
+
+returns-2 : tie.Need-returns-2
+unfolding innerDate datedAnswer refused
+returns-2 c = rw (c .before .before .a2 .given .1, held64 (c .number .result) (c .number .ok) ∙ c .number .ensures)
+
 enum-known-a : tie.Need-enum-known-a
 enum-known-a c = search needs
 
@@ -38,24 +56,6 @@ enum-known-a-2 c = search needs
 
 number-requires : tie.Need-number-requires
 number-requires c κs = search needs
-
-returns : tie.Need-returns
-unfolding innerDate datedAnswer given
-returns c =
-    let d : Date = c .before .before .before .before .before .before .before .a .given .0 .0 in
-    let y : SFits w32 (d .year) = search needs in
-    let m : SFits w32 (d .month) = search needs in
-    let n : SFits w32 (d .day) = search needs in
-    rw (
-      c .before .before .before .before .before .before .before .a .given .1,
-      widened (d .year) y .value,
-      widened (d .month) m .value,
-      widened (d .day) n .value,
-    )
-
-returns-2 : tie.Need-returns-2
-unfolding innerDate datedAnswer refused
-returns-2 c = rw (c .before .before .a2 .given .1, held64 (c .number .result) (c .number .ok) ∙ c .number .ensures)
 
 pub date-out-spec : {M : Type 1} → statement M
 date-out-spec =

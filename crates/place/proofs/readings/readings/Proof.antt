@@ -19,6 +19,25 @@ x-holds v h = arg (v .x) (accepted-parts v h .x) tt
 y-holds : (v : Direction) → Accepted (squares v) → Holds (bits (v .y)) (v .y) (unit + 1)
 y-holds v h = arg (v .y) (accepted-parts v h .y) tt
 
+returns : tie.Need-returns
+unfolding readings
+returns c =
+    let start = c .before .before .before .before .before .before .before .before .before in
+    let v = start .args .v in
+    let w = start .args .w in
+    let first = c .before .before .before .before .before .before in
+    let second = c .before .before .before .before .before in
+    let third = c .before in
+    rw (
+      held64 (first .read .result) (first .read .ok)
+          ∙ rw (x-holds v (start .pre .0) .value, y-holds v (start .pre .0) .value) at (first .read .ensures),
+      held64 (second .height .result) (second .height .ok) ∙ second .height .ensures,
+      held64 (third .read2 .result) (third .read2 .ok)
+          ∙ rw (negate (x-holds w (start .pre .1)) tt .value, y-holds w (start .pre .1) .value)
+          at (third .read2 .ensures),
+      held64 (c .height2 .result) (c .height2 .ok) ∙ c .height2 .ensures,
+    )
+
 read-requires : tie.Need-read-requires
 read-requires c κs =
     let start = c .before .before in
@@ -43,25 +62,6 @@ read-requires-2 c κs =
 
 height-requires-2 : tie.Need-height-requires-2
 height-requires-2 c κs = search needs
-
-returns : tie.Need-returns
-unfolding readings
-returns c =
-    let start = c .before .before .before .before .before .before .before .before .before in
-    let v = start .args .v in
-    let w = start .args .w in
-    let first = c .before .before .before .before .before .before in
-    let second = c .before .before .before .before .before in
-    let third = c .before in
-    rw (
-      held64 (first .read .result) (first .read .ok)
-          ∙ rw (x-holds v (start .pre .0) .value, y-holds v (start .pre .0) .value) at (first .read .ensures),
-      held64 (second .height .result) (second .height .ok) ∙ second .height .ensures,
-      held64 (third .read2 .result) (third .read2 .ok)
-          ∙ rw (negate (x-holds w (start .pre .1)) tt .value, y-holds w (start .pre .1) .value)
-          at (third .read2 .ensures),
-      held64 (c .height2 .result) (c .height2 .ok) ∙ c .height2 .ensures,
-    )
 
 pub readings-spec : {M : Type 1} → statement M
 readings-spec =

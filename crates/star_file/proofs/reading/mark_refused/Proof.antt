@@ -5,6 +5,8 @@ use lib.Dec.{eqb}
 use lib.ListN.{getD}
 use borrow.Author.Needs.{needs}
 use borrow.Author.Tests.{eq-eqb, ne-eqb}
+use mir.Syntax.{w64}
+use mir.Val.{ofZ}
 use Rattle.rules.specs.Bytes.{unsignedAt}
 use Rattle.laws.specs.FileTests.{mark-short, mark-long}
 use Rattle.star_file.proofs.reading.mark_refused.Statement.{statement}
@@ -62,7 +64,7 @@ two-bytes-at-requires c κs = search needs
 returns-5 : tie.Need-returns-5
 returns-5 c =
     let file = c .before .before .before .before .before .before .before .before .before .args .file .now in
-    ap (λ n. not (eqb n 1)) (c .two-bytes-at .ensures .0)
+    ap (λ z. not (eqb (ofZ w64 z) 1)) (c .two-bytes-at .ensures)
     ∙ passes (eqb (getD file 0 0) 83) (eqb (getD file 1 0) 76) (eqb (getD file 2 0) 84) (eqb (unsignedAt 3 2 file) 1)
     (eq-eqb (getD file 0 0) 83 (c .before .before .before .before .before .if2 .left))
     (eq-eqb (getD file 1 0) 76 (c .before .before .before .if3 .left))

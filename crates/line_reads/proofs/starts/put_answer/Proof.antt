@@ -1,0 +1,108 @@
+-- `line_reads::starts::put_answer` meets its contract: an answer is at most 62 bytes long, so its end has a place.
+use mathlib.Core.Path.{_≡_, sym, _∙_, ap}
+use mathlib.Core.List.{List}
+use Prim.Native.Nat.{ℕ, _≤_}
+use native.Mathlib.Omega.{arith}
+use lib.ListN.{length, take, set, length-append}
+use lib.Seq.{length-take-le}
+use borrow.Author.Needs.{needs}
+use borrow.Author.Tests.{le-ltb}
+use Rattle.rules.specs.Lines.{lineOf}
+use Rattle.rules.specs.Times.{printed, newline, overlaid}
+use Rattle.laws.specs.Room.{length-overlaid}
+use Rattle.laws.specs.Times.{printed-le}
+use Rattle.lines.specs.Printed.{printedIn}
+use Rattle.line_reads.specs.Reads.{held, answered}
+use Rattle.line_reads.specs.Rooms.{set-after, take-min}
+use Rattle.line_reads.proofs.starts.put_answer.Statement.{statement}
+use Rattle.line_reads.proofs.starts.put_answer.Tie as tie
+
+at-most-requires : tie.Need-at-most-requires
+at-most-requires c κs = search needs
+
+size : (c : tie.Start) → length (c .args .start .bytes) ≡ 32
+size c = search needs
+
+held-is : (c : tie.After-at-most) → take (c .at-most .result) (c .before .before .before .args .start .bytes)
+    ≡ held (c .before .before .before .args .start)
+held-is c =
+    let s = c .before .before .before .args .start in
+    ap (λ n. take n (s .bytes)) (c .at-most .ensures)
+    ∙ take-min (s .len) 32 (s .bytes) (size (c .before .before .before))
+
+array-share-prefix-bytes : tie.Need-array-share-prefix-bytes
+array-share-prefix-bytes c = omega (arith, c .at-most .ensures, size (c .before .before .before))
+
+slice-aggregate-print-into : tie.Need-slice-aggregate-print-into
+slice-aggregate-print-into c =
+    let b = c .before in
+    sym (length-take-le (b .at-most .result) (b .before .before .before .args .start .bytes)
+    (omega (arith, b .at-most .ensures, size (b .before .before .before))))
+
+print-into-requires : tie.Need-print-into-requires
+print-into-requires c κs = search needs
+
+module _ (c : tie.After-print-into) where
+  abbrev entry : tie.Start
+  entry = c .before .before .before .before .before .before
+
+  abbrev room : List ℕ
+  room = entry .args .out .now
+
+  abbrev answer : List ℕ
+  answer = printed (lineOf (held (entry .args .start)))
+
+  wide : 64 ≤ length room
+  wide = entry .pre
+
+  in-room : (line : List ℕ) → printedIn room line ≡ printed (lineOf line)
+  unfolding printedIn
+  in-room line = rw (le-ltb (length room) 64 wide)
+
+  answer-is : printedIn room (take (c .before .before .before .at-most .result) (entry .args .start .bytes)) ≡ answer
+  answer-is = in-room _ ∙ ap (λ line. printed (lineOf line)) (held-is (c .before .before .before))
+
+  end-is : c .print-into .result ≡ length answer
+  end-is = c .print-into .ensures .0 ∙ ap length answer-is
+
+  room-is : c .print-into .last .1 .0 ≡ overlaid answer room
+  room-is = c .print-into .ensures .1 ∙ ap (λ bytes. overlaid bytes room) answer-is
+
+  short : c .print-into .result ≤ 62
+  short = omega (arith, end-is, printed-le (lineOf (held (entry .args .start))))
+
+  long : length (c .print-into .last .1 .0) ≡ length room
+  long = ap length room-is ∙ length-overlaid answer room (omega (arith, wide, end-is, short))
+
+slice-write-out : tie.Need-slice-write-out
+slice-write-out c = let p = c .before .before in omega (arith, short p, long p, wide p)
+
+add-result : tie.Need-add-result
+add-result c = omega (arith, short (c .before .before))
+
+same-length : tie.Need-same-length
+same-length c = search needs
+
+returns : tie.Need-returns
+unfolding answered
+returns c =
+    let p = c .before .before in
+    let h : length (answer p) ≤ length (room p) = omega (arith, wide p, end-is p, short p) in (
+      simp length-append (omega (arith, end-is p)),
+      ap (λ l. set l (p .print-into .result) newline) (room-is p)
+          ∙ ap (λ n. set (overlaid (answer p) (room p)) n newline) (end-is p)
+          ∙ set-after (answer p) (room p) newline h,
+    )
+
+pub put-answer-spec : {M : Type 1} → statement M
+put-answer-spec =
+    tie.close
+    (tie.spec
+    at-most-requires
+    array-share-prefix-bytes
+    slice-aggregate-print-into
+    print-into-requires
+    slice-write-out
+    add-result
+    same-length
+    returns)

@@ -1,0 +1,55 @@
+// The bytes of a read, one after another.
+
+use crate::Start;
+use crate::Step;
+use crate::starts::empty;
+use crate::starts::put_answer;
+use crate::starts::with_byte;
+ghost use mathlib.Core.Path.{_≡_};
+ghost use Prim.Native.Nat.{_+_, _*_, _≤_};
+ghost use lib.ListN.{length};
+ghost use lib.Seq.{sets};
+ghost use Rattle.line_reads.specs.Reads as reads;
+
+// One byte more of the input; `at` is where the next answer goes.
+pub fn answer_byte(start: Start, b: u8, at: usize, out: &mut [u8]) -> Step
+    requires { ⌜ at + 64 ≤ length (now out) ⌝ }
+    ensures { λ r. ⌜ r ≡ reads.byteStep start b at ⌝ }
+    ensures { λ _. ⌜ now (out .exit) ≡ sets (now (out .entry)) at (reads.answerAt start b) ⌝ }
+{
+    if b == b'\n' {
+        let n = put_answer(start, &mut out[at..]);
+        let none = empty();
+        return Step {
+            start: none,
+            written: at + n,
+        };
+    }
+    let longer = with_byte(start, b);
+    Step {
+        start: longer,
+        written: at,
+    }
+}
+
+// All bytes of a read.
+pub fn answer_bytes(start: Start, input: &[u8], out: &mut [u8]) -> Step
+    requires { ⌜ 64 * length (now input) ≤ length (now out) ⌝ }
+    ensures { λ r. ⌜ r ≡ reads.bytesStep start (now (input .entry)) ⌝ }
+    ensures { λ _. ⌜ now (out .exit)
+        ≡ sets (now (out .entry)) 0 (reads.answersTo start (now (input .entry))) ⌝ }
+{
+    let mut line = start;
+    let mut at: usize = 0;
+    let mut i: usize = 0;
+    while i < input.len() {
+        let step = answer_byte(line, input[i], at, out);
+        line = step.start;
+        at = step.written;
+        i += 1;
+    }
+    Step {
+        start: line,
+        written: at,
+    }
+}
