@@ -38,7 +38,7 @@ static void draw_night(struct moment *moment, struct site *site) {
     moment->minute = draw(0, 59);
     moment->second = draw(0, 59);
     moment->ms = draw(0, 999);
-    moment->difference = draw(-900, 900);
+    moment->ut1_minus_utc = draw(-900, 900);
     site->latitude = draw(-CIRCLE / 4, CIRCLE / 4);
     site->longitude = draw(-CIRCLE / 2, CIRCLE / 2);
 }
@@ -78,7 +78,7 @@ static void erfa_places(void) {
 /* The entries keep their stars from night to night. */
 static void module_nights(void) {
     for (int k = 0; k < NIGHTS; k++) {
-        struct inner_listed listed = module_night(&moments[k], &sites[k], entries);
+        struct tests_listed listed = module_night(&moments[k], &sites[k], entries);
         used(&listed);
         used(entries);
     }
@@ -142,7 +142,7 @@ static void agree(void) {
     double largest = 0;
     struct spot spots[STARS];
     for (int k = 0; k < NIGHTS; k++) {
-        struct inner_listed listed = module_night(&moments[k], &sites[k], entries);
+        struct tests_listed listed = module_night(&moments[k], &sites[k], entries);
         erfa_night(&moments[k], &sites[k], stars, spots);
         for (int j = 0; j < STARS; j++) {
             struct turbelicus_placed placed = module_place(&moments[k], &sites[k], &stars[j]);

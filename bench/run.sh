@@ -17,9 +17,9 @@ need() {
 build() {
     mkdir -p $out
     tools/native-object module $out/module.o
-    tools/native-object inner_lists $out/inner_lists.o
+    tools/native-object tests_lists $out/tests_lists.o
     cc -std=gnu11 -O2 -Wall -Wextra -Wpedantic -Werror -o $out/bench bench/main.c bench/erfa_chain.c \
-        $out/module.o $out/inner_lists.o -lerfa -lm -Wl,-z,now
+        $out/module.o $out/tests_lists.o -lerfa -lm -Wl,-z,now
 }
 
 # instructions WORK FUNCTION: those of one place, counted while FUNCTION runs
@@ -93,7 +93,7 @@ Machine: $(machine).
 |-|-|-|-|-|
 END
     rows "one place" places turbelicus_place erfa_place 2.0
-    rows "a star of a night" nights inner_night_list erfa_night 3.0
+    rows "a star of a night" nights tests_night_list erfa_night 3.0
     cat <<END
 
 ## Where the instructions go

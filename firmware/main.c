@@ -16,13 +16,13 @@
 #define LONGITUDE INT64_C(51915000000)
 
 /* UT1-UTC in ms: kept by hand, from the bulletins. */
-#define DIFFERENCE 0
+#define UT1_MINUS_UTC 0
 
 /* The mount reaches down to 10 degrees. */
 #define LOWEST INT64_C(36000000000)
 
-/* A list of 64 stars, and one byte more, which tells a file that is too long. */
-#define MOST_BYTES (7 + 24 * 64 + 1)
+/* A list of as many stars as there may be, and one byte more, which tells a file that is too long. */
+#define MOST_BYTES (TURBELICUS_HEAD_BYTES + TURBELICUS_RECORD_BYTES * TURBELICUS_MOST_RECORDS + 1)
 
 enum { YEAR, MONTH, DAY, HOUR, MINUTE, SECOND, PARTS };
 
@@ -85,8 +85,8 @@ static int print_targets(const struct list *list, const int32_t *at) {
         struct turbelicus_starred star = turbelicus_list_star(list->bytes, list->length, i);
         if (star.refused != 0) return refuse("star", star.refused);
         struct turbelicus_placed placed = turbelicus_place(
-            at[YEAR], at[MONTH], at[DAY], at[HOUR], at[MINUTE], at[SECOND], 0, DIFFERENCE, LATITUDE, LONGITUDE, star.ra,
-            star.declination, star.ra_motion, star.declination_motion);
+            at[YEAR], at[MONTH], at[DAY], at[HOUR], at[MINUTE], at[SECOND], 0, UT1_MINUS_UTC, LATITUDE, LONGITUDE,
+            star.ra, star.declination, star.ra_motion, star.declination_motion);
         if (placed.refused != 0) return refuse("place", placed.refused);
         print_target(i, &placed);
     }

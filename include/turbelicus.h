@@ -42,14 +42,14 @@ struct turbelicus_placed {
 
 /* The place of a star at a moment and a site.
  *
- * Given: a UTC date and time of day, with UT1-UTC (difference) in ms; the site's latitude, and longitude positive east; the
+ * Given: a UTC date and time of day, with UT1-UTC in ms; the site's latitude, and longitude positive east; the
  * star's right ascension and declination of J2000, and their motions: that in right ascension is of the coordinate,
  * without a cosine.
  * Returned: apparent right ascension, 0 to 1,295,999,999,999, and declination, within 324,000,000,000; azimuth from north
  * through east, and altitude, in the same ranges. Without refraction, parallax and polar motion.
  * Refused: 1 to 6. */
 struct turbelicus_placed turbelicus_place(int32_t year, int32_t month, int32_t day, int32_t hour, int32_t minute,
-                                          int32_t second, int32_t ms, int32_t difference, int64_t latitude,
+                                          int32_t second, int32_t ms, int32_t ut1_minus_utc, int64_t latitude,
                                           int64_t longitude, int64_t ra, int64_t declination, int32_t ra_motion,
                                           int32_t declination_motion);
 
@@ -71,6 +71,11 @@ struct turbelicus_turned turbelicus_turn(int64_t x, int64_t y, int64_t z, int64_
  * Refused: never. */
 int64_t turbelicus_reading(int32_t h, int32_t v);
 
+/* The list file: the bytes of its head and of a record, and how many records it has at most. */
+#define TURBELICUS_HEAD_BYTES 7
+#define TURBELICUS_RECORD_BYTES 24
+#define TURBELICUS_MOST_RECORDS 64
+
 struct turbelicus_counted {
     int64_t refused;
     size_t count;
@@ -80,7 +85,7 @@ struct turbelicus_counted {
  *
  * Given: the bytes of a whole file. It is `SLT`, version 1 and the count (16 bits each), then for each star right ascension
  * and declination (64 bits, signed) and their motions (32 bits, signed), all little-endian: 7 + 24 count bytes.
- * Returned: 0 to 64.
+ * Returned: 0 to TURBELICUS_MOST_RECORDS.
  * Refused: 9, 10, 5, checked in this order; 5 where any of its stars is refused. */
 struct turbelicus_counted turbelicus_list_count(const uint8_t *file, size_t file_length);
 

@@ -1,11 +1,13 @@
 #!/usr/bin/env bash
-# Holds every name of docs/PROMISES.md to the files: definitions, functions, theorems, edits and tests. Holds every public
-# function, of every source file, to its theorem that no second answer fits, or to its reason among the exceptions; every
-# one that C calls to its theorem that it asks nothing; and every one with a `requires` to the page.
+# Holds every name of docs/PROMISES.md and of docs/EDITS.md to the files: definitions, functions, theorems, edits and
+# tests; and every edit to docs/EDITS.md. Holds every public function, of every source file, to its theorem that no
+# second answer fits, or to its reason among the exceptions; every one that C calls to its theorem that it asks nothing;
+# and every one with a `requires` to the page.
 set -uo pipefail
 cd "$(dirname "${BASH_SOURCE[0]}")/.." || exit 2
 
 page=docs/PROMISES.md
+edits=docs/EDITS.md
 missing=0
 looked=0
 
@@ -14,20 +16,31 @@ fail() { # fail WORD ..: says what is missing
     missing=$((missing + 1))
 }
 
-# a name that begins a declaration of an antt file
-declared() { # declared FILE NAME
-    grep -Eqs "^ *(unfoldable |abbrev )?pub (record |enum |data )?$2( |\$)" "$1"
+section() { # section HEADING: the section of the page whose heading begins so
+    sed -n "/^## $1/,/^## /p" $page
 }
 
-# a Rust-like function, in any file of a crate
-function_of() { # function_of CRATE NAME
-    grep -Eqrs "fn $2\b" "crates/$1/src"
+# the names that begin a declaration of an antt file, and the functions of a crate: each read once
+declare -A declarations functions
+while IFS=: read -r file text; do
+    declarations[$file ${text##* }]=1
+done < <(grep -rEo '^ *(unfoldable |abbrev )?pub (record |enum |data )?[^ ]+' crates/*/specs --include='*.antt')
+while IFS=/ read -r _ crate text; do
+    functions[$crate ${text##* }]=1
+done < <(grep -rEo 'fn [a-z0-9_]+' crates/*/src)
+
+declared() { # declared FILE NAME
+    [ -n "${declarations[$1 $2]-}" ]
+}
+
+function_of() { # function_of CRATE NAME: in any file of the crate
+    [ -n "${functions[$1 $2]-}" ]
 }
 
 stands() { # stands NAME: 0 where the file has it, 1 where not, 2 where it is no name of this page's forms
     local name=$1 crate rest
     case $name in
-        *.rs | *.sh | *.c)
+        *.rs | *.sh | *.c | *.txt)
             [ -e "tests/bridge/tests/$name" ] || [ -e "$name" ] ;;
         *::*)
             crate=${name%%::*}
@@ -50,23 +63,39 @@ while read -r name; do
         0) looked=$((looked + 1)) ;;
         1) fail "not found: $name" ;;
     esac
-done < <(sed -n '/^## Demands/,/^## What is assumed/p' $page | grep -o '`[^` ]*`' | tr -d '`' | sort -u)
+done < <({
+    sed -n '/^## Demands/,/^## What is assumed/p' $page
+    grep '^|' $edits
+    grep -v 'File\.name' docs/RULES.md docs/MATHEMATICS.md
+} | grep -o '`[^` ]*`' | tr -d '`' | grep -vE '^(crates|tests/[a-z]+|docs)/' | sort -u)
 
-# and the other way round: every edit stands on the page
+# and the other way round: every edit stands on its page
+listed=$(grep -o '^| `[^`]*` |' $edits)
 for edit in crates/*/must-fail/*.edit crates/*/must-fail/further/*.edit; do
-    crate=${edit#crates/}
-    name=${crate%%/*}:$(basename "$edit" .edit)
-    grep -q "^| .$name. |" $page || fail "not on the page: $name"
+    crate=${edit#crates/} label=${edit##*/}
+    name=${crate%%/*}:${label%.edit}
+    [[ $listed == *"| \`$name\` |"* ]] || fail "not on the page: $name"
 done
 
-# every sentence has two edits or more that rt ci tries itself
-while read -r row; do
-    tried=0
-    for name in $(grep -o '`[a-z_0-9]*:[a-z_0-9]*`' <<<"$row" | tr -d '`'); do
+# the promises, a line for each block: its heading, its labels, its edits
+promises() {
+    sed -n '/^## Demands/,/^## Exceptions/p' $page | awk '
+        /^#/ { if (heading != "") print heading "\t" labels "\t" tried; heading = labels = label = tried = "" }
+        /^### (D[1-3][a-e]?|One|[0-9]+)[.] / { heading = substr($0, 5) }
+        /^- / { label = $2; labels = labels label }
+        label == "Edits:" { tried = tried $0 }'
+}
+
+# every sentence has its five labels, and two edits or more that rt ci tries itself
+sentences=0
+while IFS=$'\t' read -r heading labels names; do
+    sentences=$((sentences + 1)) tried=0
+    [ "$labels" = Definition:Function:Theorem:Edits:Test: ] || fail "not the labels of a block: $heading"
+    for name in $(grep -o '`[a-z_0-9]*:[a-z_0-9]*`' <<<"$names" | tr -d '`'); do
         [ ! -e "crates/${name%%:*}/must-fail/${name#*:}.edit" ] || tried=$((tried + 1))
     done
-    [ $tried -ge 2 ] || fail "not two edits: ${row:0:60}"
-done < <(sed -n '/^## Demands/,/^## The edits/p' $page | grep -E '^\| (D[1-3][a-e]?|One|[0-9]+) \|')
+    [ $tried -ge 2 ] || fail "not two edits: $heading"
+done < <(promises)
 
 # the public functions of a source file, with `C ` before those that C calls
 public() { # public FILE
@@ -82,7 +111,7 @@ asking() { # asking FILE
 
 # a public function that is excepted, with the reason, on the page
 excepted() { # excepted CRATE::PATH
-    sed -n '/^## Exceptions/,/^## /p' $page | grep -q "^- \`$1\`: [^ ]"
+    section Exceptions | grep -q "^- \`$1\`: [^ ]"
 }
 
 # every public function has its theorem in promises, or stands with its reason among the exceptions
@@ -118,6 +147,7 @@ asks_nothing() { # asks_nothing CRATE MODULE NAME
 
 # Every source file of every crate, programs too: a function that is public is looked at wherever it stands.
 files=0 alone=0 inside=0 exceptions=0 called=0
+inner=$(section 'Inner public functions')
 while read -r source; do
     files=$((files + 1))
     crate=${source#crates/} crate=${crate%%/*}
@@ -144,15 +174,17 @@ while read -r source; do
     done < <(public "$source")
     while read -r name; do
         name=$crate::${module:+$module::}$name
-        grep -q "^[^|]*\`$name\`" $page || fail "asks something, and is not on the page: $name"
+        grep -q "\`$name\`" <<<"$inner" || fail "asks something, and is not on the page: $name"
     done < <(asking "$source")
 done < <(find crates -path 'crates/*/src/*' -name '*.rt' | sort)
 
 # an exception that no longer is one
 while read -r name; do
     function_of "${name%%::*}" "${name##*::}" || fail "excepted, and not there: $name"
-done < <(sed -n '/^## Exceptions/,/^## /p' $page | sed -nE 's/^- `([a-z0-9_:]+)`: .*/\1/p')
+done < <(section Exceptions | sed -nE 's/^- `([a-z0-9_:]+)`: .*/\1/p')
 
-printf '%d names; %d source files, %d public functions with their theorem, %d inside, %d exceptions, %d for C; %d missing\n' \
-    "$looked" "$files" "$alone" "$inside" "$exceptions" "$called" "$missing"
-[ "$missing" -eq 0 ] && [ "$looked" -gt 200 ] && [ "$files" -gt 80 ] && [ "$alone" -gt 90 ] && [ "$called" -gt 20 ]
+printf '%d names, %d sentences; %d source files, %d public functions with their theorem, %d inside, %d exceptions,' \
+    "$looked" "$sentences" "$files" "$alone" "$inside" "$exceptions"
+printf ' %d for C; %d missing\n' "$called" "$missing"
+[ "$missing" -eq 0 ] && [ "$looked" -gt 200 ] && [ "$sentences" -gt 60 ] && [ "$files" -gt 80 ] \
+    && [ "$alone" -gt 90 ] && [ "$called" -gt 20 ]

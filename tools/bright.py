@@ -1,6 +1,10 @@
 #!/usr/bin/env python3
 """Writes examples/bright.slt, a list file of document 01, and examples/bright.txt, its names by entry number.
 
+    tools/bright.py [ROOT]
+
+With ROOT they are written below that folder, and not in the tree.
+
 Places and motions are those of the Hipparcos catalogue in its newer reduction, at J2000, as catalogues print them: the
 motion in right ascension is along the sky, with the cosine of the declination in it. Document 01 asks for the motion of
 the coordinate, without a cosine, so it is divided out here. Beside PyEphem's list, of the older reduction, each star is
@@ -8,10 +12,12 @@ within 0.03″ and 3 mas a year; Castor, a close pair, within 0.14″ and 15 mas
 """
 import math
 import struct
+import sys
 from decimal import Decimal
 from pathlib import Path
 
-# name; right ascension h m s; declination ° ′ ″; motion in right ascension (with the cosine) and in declination, mas a year
+# name; right ascension h m s; declination ° ′ ″; motion in right ascension (with the cosine) and in declination, mas a
+# year
 STARS = """
 Sirius      06 45 08.917  -16 42 58.02   -546.01 -1223.07
 Canopus     06 23 57.110  -52 41 44.38     19.93    23.24
@@ -57,7 +63,8 @@ def star(row: str) -> tuple[str, int, int, int, int]:
 
 
 def main() -> None:
-    folder = Path(__file__).resolve().parent.parent / "examples"
+    folder = (Path(sys.argv[1]) if len(sys.argv) > 1 else Path(__file__).resolve().parent.parent) / "examples"
+    folder.mkdir(parents=True, exist_ok=True)
     stars = [star(row) for row in STARS.splitlines() if row]
     file = b"SLT" + struct.pack("<HH", 1, len(stars))
     file += b"".join(struct.pack("<qqii", *numbers) for _, *numbers in stars)

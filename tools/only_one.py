@@ -1,15 +1,18 @@
 #!/usr/bin/env python3
 """Writes crates/promises/specs/OnlyOne/: for each public function, that no second answer fits its contract.
 
+    tools/only_one.py [ROOT]
+
 A file for each crate, from the functions of crates/*/src and the form of their `ensures`. Whether it is so, the prover
-says; tests/promises.sh looks that no public function is left out. Afterwards: rt fmt.
+says; tests/promises.sh looks that no public function is left out. With ROOT they are written below that folder, and not
+in the tree. Afterwards, in the tree: rt fmt.
 """
 import pathlib
 import re
 import shutil
+import sys
 
-ROOT = pathlib.Path(__file__).resolve().parent.parent
-SPECS = ROOT / "crates/promises/specs"
+TREE = pathlib.Path(__file__).resolve().parent.parent
 WIDTH = 120
 
 # what these crates answer comes from outside, so no contract can say it: docs/PROMISES.md lists their functions
@@ -25,15 +28,15 @@ LEMMAS = {"one": 1, "one-and": 3, "one-both": 4, "one-each": 4, "one-content": 3
 
 
 def crates():
-    for line in (ROOT / "crates.txt").read_text().splitlines():
+    for line in (TREE / "crates.txt").read_text().splitlines():
         match = re.match(r"(\w+):", line)
-        if match and match[1] not in FROM_OUTSIDE and (ROOT / "crates" / match[1] / "src/lib.rt").exists():
+        if match and match[1] not in FROM_OUTSIDE and (TREE / "crates" / match[1] / "src/lib.rt").exists():
             yield match[1]
 
 
 def sources(crate):
     """The files whose `pub` functions another crate can call, each with its module's path."""
-    folder = ROOT / "crates" / crate / "src"
+    folder = TREE / "crates" / crate / "src"
     root = (folder / "lib.rt").read_text()
     yield [], root
     for module in re.findall(r"^pub mod (\w+);", root, re.M):
@@ -101,16 +104,17 @@ def page(crate):
 
 
 def main():
-    shutil.rmtree(SPECS / "OnlyOne", ignore_errors=True)
-    (SPECS / "OnlyOne").mkdir()
+    specs = pathlib.Path(sys.argv[1] if len(sys.argv) > 1 else TREE) / "crates/promises/specs"
+    shutil.rmtree(specs / "OnlyOne", ignore_errors=True)
+    (specs / "OnlyOne").mkdir(parents=True)
     index = ["-- No second answer fits, nor a second content of lent memory: of each public function, by its contract."]
     for crate in crates():
         text = page(crate)
         if text:
             name = crate.title().replace("_", "")
-            (SPECS / "OnlyOne" / f"{name}.antt").write_text(text)
+            (specs / "OnlyOne" / f"{name}.antt").write_text(text)
             index.append(f"pub mod {name}")
-    (SPECS / "OnlyOne.antt").write_text("\n".join(index) + "\n")
+    (specs / "OnlyOne.antt").write_text("\n".join(index) + "\n")
 
 
 main()

@@ -7,7 +7,9 @@ It reads what `rt ci` and tests/further_edits.sh leave below target/must-fail/. 
 since it was written or was not refused, and where its refusal shows nothing: a name that is not in scope, a text that
 is no proof or no definition, a contract that is none, or a need that the edited function does not have. So it does
 where the first refusal is at a need of the code, and not at what the function ensures: that a number fits, that a
-callee's condition holds. An edit that is to be refused there names the need in a line `need: NAME`.
+callee's condition holds. A need is told by the type of what is declared there, `tie.Need-NAME`; of a function whose
+proof the prover makes itself, by the name that it prints. An edit that is to be refused there names the need in a line
+`need: NAME`.
 """
 import pathlib
 import re
@@ -29,12 +31,18 @@ SHAPES = [
     (re.compile(r"^expected type `\S+`, but this has type"), "a value of another type"),
 ]
 
-# what is asked at a place of the code, apart from what the function ensures
+# the type of a declaration that proves a need
+NEED = re.compile(r"(?:[\w-]+\.)?Need-(\S+)")
+
+# what the function ensures, and what a loop keeps
+ENSURED = re.compile(r"^returns(-\d+)?$|-(holds|again)(-\d+)?$")
+
+# what is asked at a place of the code apart from that
 NEEDS = [
     (re.compile(r"-requires(-\d+)?$"), "callee's condition"),
     (re.compile(r"^(add|sub|mul|div|rem|shl|shr|neg|cast)-"), "number that must fit"),
-    (re.compile(r"^(shared-)?(slice|array)-"), "slot or length"),
-    (re.compile(r"^loop-less"), "measure"),
+    (re.compile(r"^(shared-)?(slice|array|element|index|part|same)-"), "slot or length"),
+    (re.compile(r"-less(-\d+)?$"), "measure"),
 ]
 
 
@@ -71,8 +79,32 @@ def named_need(edit: str) -> str:
     return line[1] if line else ""
 
 
-def kind_of(fact: str) -> str:
-    return next((kind for form, kind in NEEDS if form.search(fact)), "fact")
+def declared_type(file: pathlib.Path, line: int, name: str) -> str | None:
+    """The type of the declaration of that name that the line belongs to: the last that begins at it or above."""
+    if not file.exists():
+        return None
+    text = file.read_text()
+    form = re.compile(rf"^ *(?:\w+ )*{re.escape(name)} :\s+(\S+)", re.M)
+    types = [found[1] for found in form.finditer(text) if text.count("\n", 0, found.start()) < line]
+    return types[-1] if types else None
+
+
+def need_of(refusal: Refusal, crate: pathlib.Path) -> str:
+    """The need of the code at which the edited crate was refused; none where a fact or a lemma was."""
+    file, line, _ = refusal.place.rsplit(":", 2)
+    kind = declared_type(crate / file, int(line), refusal.fact)
+    if kind:
+        need = NEED.match(kind)
+        return need[1] if need and not ENSURED.search(need[1]) else ""
+    # where nothing is declared, in a proof that the prover makes itself, the name is that of a need
+    own = file.startswith("src/") and not ENSURED.search(refusal.fact)
+    return refusal.fact if own or any(form.search(refusal.fact) for form, _ in NEEDS) else ""
+
+
+def kind_of(need: str) -> str:
+    if not need:
+        return "fact"
+    return next((kind for form, kind in NEEDS if form.search(need)), "need of the code")
 
 
 def edits() -> list[tuple[str, pathlib.Path]]:
@@ -102,10 +134,11 @@ def main() -> None:
         if refusal.shape:
             faults.append(f"{name}: refused for its shape, at {refusal.place}: {refusal.shape}")
         text = edit.read_text()
-        broken = text.splitlines()[0].removeprefix("# ")
-        kind = kind_of(refusal.fact)
+        broken = text.splitlines()[0].removeprefix("# ").replace("|", r"\|")
+        need = need_of(refusal, log.parent)
+        kind = kind_of(need)
         kinds[kind] = kinds.get(kind, 0) + 1
-        if kind != "fact" and named_need(text) != refusal.fact:
+        if named_need(text) != need:
             faults.append(f"{name}: refused at a {kind}, {refusal.place}: {refusal.fact}")
         print(f"| `{name}` | {broken} | `{refusal.place}` | `{refusal.fact}` | {kind} |")
     counted = ", ".join(f"{count} at a {kind}" for kind, count in sorted(kinds.items()))

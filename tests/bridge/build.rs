@@ -11,7 +11,7 @@ const SUBJECTS: [&str; 10] = [
     "dates",
     "earth",
     "place",
-    "star_list",
+    "list_file",
     "entries",
     "night_list",
 ];

@@ -6,7 +6,7 @@
 #include <stdlib.h>
 #include <string.h>
 
-#include "inner.h"
+#include "tests_exports.h"
 #include "turbelicus.h"
 
 struct call {
@@ -17,7 +17,7 @@ struct call {
     size_t room_length;
 };
 
-_Static_assert(sizeof(struct inner_entry) == 64, "the bridge sends 64 bytes for an entry");
+_Static_assert(sizeof(struct tests_entry) == TESTS_ENTRY_BYTES, "the bridge sends so many bytes for an entry");
 
 static _Noreturn void fail(const char *what, const char *name) {
     fprintf(stderr, "driver: %s: %.64s\n", what, name);
@@ -32,27 +32,27 @@ static int32_t narrow(int64_t word) {
 
 /* Every exported function: its name, how many words it is given, the type of its answer, and what it is called with. */
 #define FUNCTIONS(FUNCTION)                                                                                            \
-    FUNCTION(inner_rnd_quotient, 2, struct inner_tried, given[0], given[1])                                            \
-    FUNCTION(inner_rnd_product_quotient, 3, struct inner_tried, given[0], given[1], given[2])                          \
-    FUNCTION(inner_whole_root, 1, struct inner_tried, given[0])                                                        \
-    FUNCTION(inner_on_circle, 1, struct inner_tried, given[0])                                                         \
-    FUNCTION(inner_pair, 1, struct inner_pair, given[0])                                                               \
+    FUNCTION(tests_rnd_quotient, 2, struct tests_tried, given[0], given[1])                                            \
+    FUNCTION(tests_rnd_product_quotient, 3, struct tests_tried, given[0], given[1], given[2])                          \
+    FUNCTION(tests_whole_root, 1, struct tests_tried, given[0])                                                        \
+    FUNCTION(tests_on_circle, 1, struct tests_tried, given[0])                                                         \
+    FUNCTION(tests_pair, 1, struct tests_pair, given[0])                                                               \
     FUNCTION(turbelicus_turn, 5, struct turbelicus_turned, given[0], given[1], given[2], given[3], given[4])           \
     FUNCTION(turbelicus_reading, 2, int64_t, narrow(given[0]), narrow(given[1]))                                       \
-    FUNCTION(inner_day_of, 3, struct inner_day, narrow(given[0]), narrow(given[1]), narrow(given[2]))                  \
-    FUNCTION(inner_date_of, 1, struct inner_date, given[0])                                                            \
-    FUNCTION(inner_instants, 8, struct inner_instants, narrow(given[0]), narrow(given[1]), narrow(given[2]),           \
+    FUNCTION(tests_day_of, 3, struct tests_day, narrow(given[0]), narrow(given[1]), narrow(given[2]))                  \
+    FUNCTION(tests_date_of, 1, struct tests_date, given[0])                                                            \
+    FUNCTION(tests_instants, 8, struct tests_instants, narrow(given[0]), narrow(given[1]), narrow(given[2]),           \
              narrow(given[3]), narrow(given[4]), narrow(given[5]), narrow(given[6]), narrow(given[7]))                 \
-    FUNCTION(inner_times_line, 0, size_t, call->read, call->read_length, call->room, call->room_length)                \
-    FUNCTION(inner_precession, 1, struct inner_precession, given[0])                                                   \
-    FUNCTION(inner_obliquity, 1, struct inner_angle, given[0])                                                         \
-    FUNCTION(inner_arguments, 1, struct inner_arguments, given[0])                                                     \
-    FUNCTION(inner_nutation, 1, struct inner_nutation, given[0])                                                       \
-    FUNCTION(inner_sun, 1, struct inner_angle, given[0])                                                               \
-    FUNCTION(inner_mean_longitude, 1, struct inner_angle, given[0])                                                    \
-    FUNCTION(inner_aberration, 1, struct inner_aberration, given[0])                                                   \
-    FUNCTION(inner_sidereal, 1, struct inner_angle, given[0])                                                          \
-    FUNCTION(inner_sidereal_polynomial, 1, struct inner_angle, given[0])                                               \
+    FUNCTION(tests_times_line, 0, size_t, call->read, call->read_length, call->room, call->room_length)                \
+    FUNCTION(tests_precession, 1, struct tests_precessed, given[0])                                                    \
+    FUNCTION(tests_obliquity, 1, struct tests_angle, given[0])                                                         \
+    FUNCTION(tests_arguments, 1, struct tests_five_arguments, given[0])                                                        \
+    FUNCTION(tests_nutation, 1, struct tests_nutated, given[0])                                                        \
+    FUNCTION(tests_sun, 1, struct tests_angle, given[0])                                                               \
+    FUNCTION(tests_mean_longitude, 1, struct tests_angle, given[0])                                                    \
+    FUNCTION(tests_aberration, 1, struct tests_aberration, given[0])                                                   \
+    FUNCTION(tests_sidereal, 1, struct tests_angle, given[0])                                                          \
+    FUNCTION(tests_sidereal_polynomial, 1, struct tests_angle, given[0])                                               \
     FUNCTION(turbelicus_place, 14, struct turbelicus_placed, narrow(given[0]), narrow(given[1]), narrow(given[2]),     \
              narrow(given[3]), narrow(given[4]), narrow(given[5]), narrow(given[6]), narrow(given[7]), given[8],       \
              given[9], given[10], given[11], narrow(given[12]), narrow(given[13]))                                     \
@@ -60,13 +60,13 @@ static int32_t narrow(int64_t word) {
     FUNCTION(turbelicus_list_star, 1, struct turbelicus_starred, call->read, call->read_length, (size_t)given[0])      \
     FUNCTION(turbelicus_list_write, 0, struct turbelicus_written, call->read, call->read_length / sizeof(int64_t),     \
              call->room, call->room_length)                                                                            \
-    FUNCTION(inner_list_read, 0, struct turbelicus_counted, call->read, call->read_length, call->room,                 \
-             call->room_length / sizeof(struct inner_entry))                                                           \
-    FUNCTION(inner_list_write, 0, struct turbelicus_counted, call->read,                                               \
-             call->read_length / sizeof(struct inner_entry), call->room, call->room_length)                            \
-    FUNCTION(inner_night_list, 10, struct turbelicus_counted, narrow(given[0]), narrow(given[1]), narrow(given[2]),    \
+    FUNCTION(tests_list_read, 0, struct turbelicus_counted, call->read, call->read_length, call->room,                 \
+             call->room_length / sizeof(struct tests_entry))                                                           \
+    FUNCTION(tests_list_write, 0, struct turbelicus_counted, call->read,                                               \
+             call->read_length / sizeof(struct tests_entry), call->room, call->room_length)                            \
+    FUNCTION(tests_night_list, 10, struct turbelicus_counted, narrow(given[0]), narrow(given[1]), narrow(given[2]),    \
              narrow(given[3]), narrow(given[4]), narrow(given[5]), narrow(given[6]), narrow(given[7]), given[8],       \
-             given[9], call->room, call->room_length / sizeof(struct inner_entry))
+             given[9], call->room, call->room_length / sizeof(struct tests_entry))
 
 /* A weak name is null where no archive has the function, so that the driver can be built before all of them stand. */
 #define CALLER(function, count, type, ...)                                                                             \

@@ -1,24 +1,29 @@
-/* Document 01, "Cases": those that are run only, each through every function of the module and of the tests' own
+/* docs/RULES.md, "Cases": those that are run only, each through every function of the module and of the tests' own
  * exports that meets it. A line has the case, the call and every number of the answer; run_only.txt has what must be
  * printed.
  * After each case stands its neighbour that is accepted, where document 01 says what that answers. */
-#include "inner.h"
+#include "tests_exports.h"
 #include "turbelicus.h"
 #include <stdio.h>
 #include <string.h>
 
-enum { NUMBERS = 4, RECORD = 24, HEAD = 7, MOST = 64 };
+enum {
+    NUMBERS = 4,
+    RECORD = TURBELICUS_RECORD_BYTES,
+    HEAD = TURBELICUS_HEAD_BYTES,
+    MOST = TURBELICUS_MOST_RECORDS
+};
 
 static const int64_t UNIT = INT64_C(1) << 30, QUARTER = 324000000000, CIRCLE = 1296000000000;
 
 static void day(int32_t year, int32_t month, int32_t of_month) {
-    struct inner_day a = inner_day_of(year, month, of_month);
+    struct tests_day a = tests_day_of(year, month, of_month);
     printf("%d-%02d-%02d, day number: refused %lld, day %lld\n", year, month, of_month, (long long)a.refused,
            (long long)a.day);
 }
 
 static void instants(int32_t year, int32_t month, int32_t of_month) {
-    struct inner_instants a = inner_instants(year, month, of_month, 12, 0, 0, 0, 0);
+    struct tests_instants a = tests_instants(year, month, of_month, 12, 0, 0, 0, 0);
     printf("%d-%02d-%02d, instants: refused %lld, ut %lld, tt %lld\n", year, month, of_month, (long long)a.refused,
            (long long)a.ut, (long long)a.tt);
 }

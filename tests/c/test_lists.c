@@ -1,6 +1,6 @@
 /* Lists over entries called from C: what each leaves in the entries and the room, and what C may lend. */
 #include "check.h"
-#include "inner.h"
+#include "tests_exports.h"
 #include <string.h>
 
 static const uint8_t file[] = {'S', 'L', 'T', 1,   0,   1,   0,   1,   0,   0,   0,   0,   0,   0,   0,   254,
@@ -10,42 +10,42 @@ static int is_listed(struct turbelicus_counted listed, int64_t refused, size_t c
     return listed.refused == refused && listed.count == count;
 }
 
-static int has_place(struct inner_entry entry, int64_t ra, int64_t declination, int64_t azimuth, int64_t altitude) {
-    struct inner_place place = entry.place;
+static int has_place(struct tests_entry entry, int64_t ra, int64_t declination, int64_t azimuth, int64_t altitude) {
+    struct tests_place place = entry.place;
     return place.ra == ra && place.declination == declination && place.azimuth == azimuth && place.altitude == altitude;
 }
 
 /* An entry whose mark and place are not noughts, so that a write to it shows. */
-static struct inner_entry entry_of(int64_t ra, int64_t declination) {
-    struct inner_entry entry = {{ra, declination, 0, 0}, 9, {9, 9, 9, 9}};
+static struct tests_entry entry_of(int64_t ra, int64_t declination) {
+    struct tests_entry entry = {{ra, declination, 0, 0}, 9, {9, 9, 9, 9}};
     return entry;
 }
 
-static struct turbelicus_counted night(int32_t year, struct inner_entry *entries, size_t length) {
-    return inner_night_list(year, 1, 1, 12, 0, 0, 0, 0, 0, 0, entries, length);
+static struct turbelicus_counted night(int32_t year, struct tests_entry *entries, size_t length) {
+    return tests_night_list(year, 1, 1, 12, 0, 0, 0, 0, 0, 0, entries, length);
 }
 
 static void files(void) {
-    struct inner_entry entries[] = {entry_of(7, 7), entry_of(7, 7)};
-    CHECK(is_listed(inner_list_read(file, sizeof file, entries, 2), 0, 1));
+    struct tests_entry entries[] = {entry_of(7, 7), entry_of(7, 7)};
+    CHECK(is_listed(tests_list_read(file, sizeof file, entries, 2), 0, 1));
     CHECK(entries[0].star.ra == 1 && entries[0].star.declination == -2);
     CHECK(entries[0].star.ra_motion == 3 && entries[0].star.declination_motion == -4);
     CHECK(entries[0].mark == 0 && has_place(entries[0], 0, 0, 0, 0));
     CHECK(entries[1].star.ra == 7 && entries[1].mark == 9 && has_place(entries[1], 9, 9, 9, 9));
-    CHECK(is_listed(inner_list_read(file, 6, entries, 2), 9, 0));
-    CHECK(is_listed(inner_list_read(file, sizeof file, NULL, 0), 11, 0));
+    CHECK(is_listed(tests_list_read(file, 6, entries, 2), 9, 0));
+    CHECK(is_listed(tests_list_read(file, sizeof file, NULL, 0), 11, 0));
 
     uint8_t room[sizeof file + 1];
     memset(room, 7, sizeof room);
-    CHECK(is_listed(inner_list_write(entries, 1, room, sizeof file - 1), 11, 0) && room[0] == 7);
-    CHECK(is_listed(inner_list_write(entries, 1, room, sizeof room), 0, sizeof file));
+    CHECK(is_listed(tests_list_write(entries, 1, room, sizeof file - 1), 11, 0) && room[0] == 7);
+    CHECK(is_listed(tests_list_write(entries, 1, room, sizeof room), 0, sizeof file));
     CHECK(memcmp(room, file, sizeof file) == 0 && room[sizeof file] == 7);
-    CHECK(is_listed(inner_list_write(NULL, 0, room, 7), 0, 7));
-    CHECK(is_listed(inner_list_write(NULL, 0, NULL, 0), 11, 0));
+    CHECK(is_listed(tests_list_write(NULL, 0, room, 7), 0, 7));
+    CHECK(is_listed(tests_list_write(NULL, 0, NULL, 0), 11, 0));
 }
 
 static void nights(void) {
-    static struct inner_entry entries[65];
+    static struct tests_entry entries[65];
     for (size_t i = 0; i < 65; i++) entries[i] = entry_of((int64_t)i, 0);
     entries[1] = entry_of(0, 324000000001);
     CHECK(is_listed(night(2000, entries, 65), 11, 0) && entries[0].mark == 9);

@@ -6,10 +6,10 @@ use Rattle.rules.specs.declared.Direction.{Direction}
 
 -- a date, a time of day, and UT1−UTC in ms
 abbrev pub momentOf : ℤ → ℤ → ℤ → ℤ → ℤ → ℤ → ℤ → ℤ → Moment
-momentOf year month day hour minute second ms difference = record {
+momentOf year month day hour minute second ms «ut1_minus_utc» = record {
   date = record { year = year; month = month; day = day };
   time = record { hour = hour; minute = minute; second = second; ms = ms };
-  difference = difference;
+  «ut1_minus_utc» = «ut1_minus_utc»;
 }
 
 abbrev pub siteOf : ℤ → ℤ → Site

@@ -1,9 +1,9 @@
 // The answers of the list file, as C gets them.
 
 use rules::Listed;
-use rules::Starred;
+use rules::ListedStar;
 ghost use mathlib.Core.Path.{_≡_};
-ghost use Rattle.rules.specs.Answers.{listedAnswer, starredAnswer};
+ghost use Rattle.rules.specs.Answers.{listedAnswer, listedStarAnswer};
 ghost use Rattle.answers.specs.Answers.{countedOut, starredOut, writtenOut};
 
 // The refusal's number and nought, or 0 and the number of records.
@@ -45,18 +45,18 @@ pub fn counted_out(a: Listed) -> TurbelicusCounted
     }
 }
 
-pub fn starred_out(a: Starred) -> TurbelicusStarred
-    ensures { λ r. ⌜ r ≡ starredOut (starredAnswer a) ⌝ }
+pub fn starred_out(a: ListedStar) -> TurbelicusStarred
+    ensures { λ r. ⌜ r ≡ starredOut (listedStarAnswer a) ⌝ }
 {
     match a {
-        Starred::Of(s) => TurbelicusStarred {
+        ListedStar::Of(s) => TurbelicusStarred {
             refused: 0,
             ra: s.ra,
             declination: s.declination,
             ra_motion: s.ra_motion,
             declination_motion: s.declination_motion,
         },
-        Starred::Refused(r) => TurbelicusStarred {
+        ListedStar::Refused(r) => TurbelicusStarred {
             refused: refusals::number(r),
             ra: 0,
             declination: 0,

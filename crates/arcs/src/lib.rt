@@ -1,7 +1,7 @@
-// The arc of a reading, document 01, "Turns, readings, place": θ whose tangent is u, in parts of
+// The arc of a reading, docs/RULES.md, "Turns, readings, place": θ whose tangent is u, in parts of
 // 2^30, and in µas.
 
-use series::rows;
+use series::parts::square_parts;
 use units::HALF;
 use units::HALF_IN_PARTS;
 use units::UNIT;
@@ -46,7 +46,7 @@ pub fn arc(u: i64) -> i64
     requires { ⌜ UpTo u threeSevenths ⌝ }
     ensures { λ r. ⌜ r ≡ rule.arc u ⌝ }
 {
-    let w = rows::square_parts(u);
+    let w = square_parts(u);
     rounding::rnd_by_unit(u * arc_factor(w))
 }
 

@@ -1,9 +1,9 @@
 // The five arguments of nutation, of TT.
 
 use polynomials::cubic;
-use polynomials::refused_instant;
-use rules::Argued;
+use polynomials::instant_refused;
 use rules::Arguments;
+use rules::FiveArguments;
 use rules::Refusal;
 use rules::Tt;
 ghost use mathlib.Core.Path.{_≡_};
@@ -14,7 +14,7 @@ ghost use Rattle.laws.specs.Instant.{InRange};
 //
 // Given: t, TT, from -Q to Q.
 // Returned: l, l', F, D, Ω in µas, not reduced by C.
-// Rule: 01, "Polynomials in time" (IAU 1980).
+// Rule: docs/RULES.md, "Polynomials in time" (IAU 1980; in degrees source 000, section 3.5.1.2).
 pub fn arguments_of(t: Tt) -> Arguments
     requires { ⌜ InRange (t .0) ⌝ }
     ensures { λ r. ⌜ r ≡ arguments t ⌝ }
@@ -40,12 +40,12 @@ pub fn sun_of(t: Tt) -> i64
 //
 // Given: t, TT, any.
 // Returned: l, l', F, D, Ω in µas, not reduced by C, or refusal 12.
-// Rule: 01, "Polynomials in time" (IAU 1980).
-pub fn arguments(t: Tt) -> Argued
+// Rule: docs/RULES.md, "Polynomials in time" (IAU 1980).
+pub fn arguments(t: Tt) -> FiveArguments
     ensures { λ r. ⌜ r ≡ argumentsAt t ⌝ }
 {
-    if refused_instant(t.0) {
-        return Argued::Refused(Refusal::Instant);
+    if instant_refused(t.0) {
+        return FiveArguments::Refused(Refusal::Instant);
     }
-    Argued::By(arguments_of(t))
+    FiveArguments::By(arguments_of(t))
 }

@@ -1,6 +1,6 @@
-// The calendar of document 01, "Dates": day numbers and dates.
+// The calendar of docs/RULES.md, "Dates": day numbers and dates.
 
-use crate::dates::date_at;
+use crate::counts::date_at;
 use crate::dates::day_number;
 use crate::dates::day_refused;
 use rules::Date;
@@ -11,13 +11,15 @@ use whole::is_between;
 ghost use mathlib.Core.Path.{_≡_};
 ghost use Rattle.rules.specs.Calendar.{dayOf, dateOf};
 
+mod counts;
 pub mod dates;
+mod years;
 
 // The day number of a date.
 //
 // Given: any numbers.
 // Returned: -10227 to 36524, 0 for 2000-01-01; or refusal 1 or 2.
-// Rule: 01, "Dates".
+// Rule: docs/RULES.md, "Dates".
 pub fn day_of(date: Date) -> Numbered
     ensures { λ r. ⌜ r ≡ dayOf date ⌝ }
 {
@@ -37,7 +39,7 @@ pub fn day_of(date: Date) -> Numbered
 //
 // Given: any number.
 // Returned: the date; or refusal 1.
-// Rule: 01, "Dates".
+// Rule: docs/RULES.md, "Dates".
 pub fn date_of(n: i64) -> Dated
     ensures { λ r. ⌜ r ≡ dateOf n ⌝ }
 {

@@ -1,5 +1,5 @@
-// Sine and cosine of an angle, document 01, "Sine and cosine". Angles are in µas, all else in parts
-// of 2^30.
+// Sine and cosine of an angle, docs/RULES.md, "Sine and cosine". Angles are in µas, all else in
+// parts of 2^30.
 
 use rules::Pair;
 use units::QUARTER;
@@ -12,7 +12,7 @@ mod quarters;
 //
 // Given: a, any, in µas.
 // Returned: the pair in parts of 2^30, no part larger than 2^30, its squared length accepted.
-// Rule: 01, "Sine and cosine".
+// Rule: docs/RULES.md, "Sine and cosine".
 pub fn pair(a: i64) -> Pair
     ensures { λ r. ⌜ r ≡ circle.pair a ⌝ }
 {

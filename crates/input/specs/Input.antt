@@ -5,11 +5,8 @@ use mathlib.Core.Bool.{true, false, cond}
 use mathlib.Core.List.{List, [], _∷_}
 use lib.Dec.{eqb}
 use lib.ListN.{length, take, drop}
+use Rattle.rules.specs.Times.{newline}
 use Rattle.input.specs.declared.Read.{Read}
-
--- LF, the end of a line
-abbrev pub newline : ℕ
-newline = 10
 
 -- the first line of an input, with its end where it has one
 unfoldable pub lineWithEnd : List ℕ → List ℕ

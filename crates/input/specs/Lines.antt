@@ -10,8 +10,9 @@ use lib.Seq.{drop-drop, getD-take}
 use borrow.Author.Count.{below-more}
 use borrow.Author.Tests.{ne-eqb}
 use borrow.Rule.Slice.PartMut.{midOf, putMid, same-len-mid, mid-len, take-put, drop-put}
+use Rattle.rules.specs.Times.{newline}
 use Rattle.input.specs.declared.Read.{Read}
-use Rattle.input.specs.Input.{newline, lineWithEnd, FileRead, LineRead}
+use Rattle.input.specs.Input.{lineWithEnd, FileRead, LineRead}
 
 -- no LF among so many first bytes
 abbrev pub NoneIn : ℕ → List ℕ → Type 0

@@ -1,4 +1,4 @@
-// The two instants of a UTC date, document 01, "Dates".
+// The two instants of a UTC date, docs/RULES.md, "Dates".
 
 use calendar::dates::day_number;
 use calendar::dates::day_refused;
@@ -16,7 +16,7 @@ ghost use Rattle.rules.specs.Dates as rule;
 //
 // Given: any numbers.
 // Returned: UT and TT, ms from J2000.0; or refusal 1, 2, 3 or 4.
-// Rule: 01, "Dates". UT1-UTC is in UT alone.
+// Rule: docs/RULES.md, "Dates". UT1-UTC is in UT alone.
 pub fn instants(moment: Moment) -> Instants
     ensures { λ r. ⌜ r ≡ rule.instants moment ⌝ }
 {
@@ -27,7 +27,7 @@ pub fn instants(moment: Moment) -> Instants
     let minute = moment.time.minute as i64;
     let second = moment.time.second as i64;
     let ms = moment.time.ms as i64;
-    let difference = moment.difference as i64;
+    let ut1_minus_utc = moment.ut1_minus_utc as i64;
     if !is_between(1972, 2099, year) {
         return Instants::Refused(Refusal::Year);
     }
@@ -38,8 +38,8 @@ pub fn instants(moment: Moment) -> Instants
     if time_refused(n, hour, minute, second, ms) {
         return Instants::Refused(Refusal::Time);
     }
-    if !is_between(-900, 900, difference) {
-        return Instants::Refused(Refusal::Difference);
+    if !is_between(-900, 900, ut1_minus_utc) {
+        return Instants::Refused(Refusal::Ut1MinusUtc);
     }
-    instants_at(n, ms_of_day(hour, minute, second, ms), difference)
+    instants_at(n, ms_of_day(hour, minute, second, ms), ut1_minus_utc)
 }

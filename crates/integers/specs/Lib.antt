@@ -16,9 +16,10 @@ pub mod Ring
 pub mod Order
 -- squares: order back, Cauchy and Schwarz, Minkowski
 pub mod Square
--- powers; polynomials as lists: P1 to P3 of the blueprint; a series worked in steps is one: P4
+-- powers; polynomials as lists: P1 to P3 of docs/MATHEMATICS.md, "Polynomials as lists"; a series worked in steps is
+-- one: P4
 pub mod Power
 pub mod Polynomial
-pub mod SeriesSteps
+pub mod SeriesStages
 -- one of each
 pub mod Examples

@@ -1,6 +1,6 @@
 -- Polynomials as lists of whole coefficients, constant first, and their values at a fraction z / o, over a power of o
--- (blueprint, toolkit B). `value-plus`, `value-scale`, `value-shift`, `raise`: P1. `value-times`: P2. `value-le`: P3,
--- a bound by computing.
+-- (docs/MATHEMATICS.md, "Polynomials as lists"). `value-plus`, `value-scale`, `value-shift`, `raise`: P1.
+-- `value-times`: P2. `value-le`: P3, a bound by computing.
 -- Keep z and o variables where these are cited, and never unfold a power.
 use mathlib.Core.Path.{_≡_, refl, sym, ap}
 use mathlib.Core.List.{List, [], _∷_}

@@ -1,4 +1,5 @@
--- How far a pair is across from (n, m), where it is near two series g and q over e (blueprint, O6 and O7).
+-- How far a pair is across from (n, m), where it is near two series g and q over e (docs/MATHEMATICS.md,
+-- "The first octant").
 use mathlib.Core.Path.{_≡_, ap}
 use mathlib.Core.List.{[], _∷_}
 use Prim.Native.Nat.{ℕ, _+_, _*_, _≤_, _<_}

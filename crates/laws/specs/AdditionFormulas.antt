@@ -1,5 +1,5 @@
 -- The two addition formulas, nearly: the series at half a quarter less an angle, against those at the angle
--- (blueprint, O7).
+-- (docs/MATHEMATICS.md, "Half a quarter less").
 use mathlib.Core.Path.{_≡_, refl}
 use mathlib.Core.List.{List, [], _∷_}
 use Prim.Native.Nat.{ℕ, _*_, _≤_}

@@ -1,6 +1,7 @@
--- θ of a reading is near the arc's series through the 23rd power at the fraction a / b (blueprint, O1 to O3).
+-- θ of a reading is near the arc's series through the 23rd power at the fraction a / b (docs/MATHEMATICS.md,
+-- "The arc of a reading").
 use mathlib.Core.Path.{_≡_}
-use mathlib.Core.List.{List, [], _∷_}
+use mathlib.Core.List.{[], _∷_}
 use Prim.Native.Nat.{ℕ, _*_, _≤_, _<_}
 use native.Mathlib.Nat.{mul-le-mul}
 use native.Mathlib.Omega.{arith}
@@ -8,16 +9,16 @@ use lib.Dec.{T, lit<, lit≤}
 use lib.IntN.{ℤ, pos, negℤ, natAbs, _-ℤ_, _*ℤ_}
 use Rattle.integers.specs.Size.{abs-neg}
 use Rattle.integers.specs.Ring.{ring, v0, v1, v2, _⊖_, _⊗_, neg, lit}
-use Rattle.integers.specs.SeriesSteps.{numerator, denominator}
+use Rattle.integers.specs.SeriesStages.{numerator, denominator}
 use Rattle.rules.specs.Units.{unit}
 use Rattle.rules.specs.Rounding.{rnd, rndSize}
 use Rattle.rules.specs.Circle.{squareParts}
 use Rattle.rules.specs.Reading.{arcStages, arcRow, arc}
-use Rattle.laws.specs.Rounding.{rnd-near, rnd-pos, rndSize-le, rndSize-under}
+use Rattle.laws.specs.Rounding.{rnd-near, rnd-pos, rndSize-under}
 use Rattle.laws.specs.UpTo.{UpTo, upTo-pos, upTo-le, upTo-product, upTo-of-le}
 use Rattle.laws.specs.Near.{Near, near-product-one, near-le, near-of-le}
-use Rattle.laws.specs.Chain.{error, firstError, rises, Worked, chain, arcSteps, arcStages-worked}
-use Rattle.laws.specs.Chain.{worked-range}
+use Rattle.laws.specs.RoundedStages.{error, firstError, rises, Worked, chain, stagesOfArc, arcStages-worked}
+use Rattle.laws.specs.RoundedStages.{afterStages-range}
 use Rattle.laws.specs.Circle.{halfQuarterParts, square-range}
 
 -- a / b in parts of 2^30
@@ -30,14 +31,14 @@ threeSevenths = 460175068
 
 -- the arc's series at a / b, as a fraction
 unfoldable pub arcNumerator : ℕ → ℕ → ℤ
-arcNumerator a b = pos a *ℤ numerator (pos (a * a)) (b * b) (arcSteps arcRow) (pos 1) 23
+arcNumerator a b = pos a *ℤ numerator (pos (a * a)) (b * b) (stagesOfArc arcRow) (pos 1) 23
 
 unfoldable pub arcDenominator : ℕ → ℕ → ℕ
-arcDenominator a b = b * denominator (b * b) (arcSteps arcRow) 23
+arcDenominator a b = b * denominator (b * b) (stagesOfArc arcRow) 23
 
 -- ---- the row: its first number, and its range
 
-arc-rises : T (rises (arcSteps arcRow) (rndSize unit 23))
+arc-rises : T (rises (stagesOfArc arcRow) (rndSize unit 23))
 unfolding rndSize
 arc-rises = tt
 
@@ -45,20 +46,13 @@ first-near : Near (rnd (pos unit) 23) (pos 1) 23 500
 unfolding rnd rndSize
 first-near = record { divisor-pos = lit< tt; near = lit≤ tt }
 
-first-range : UpTo (rnd (pos unit) 23) (rndSize unit 23)
+pub first-range : UpTo (rnd (pos unit) 23) (rndSize unit 23)
 first-range = rw (rnd-pos unit 23) (upTo-pos (rndSize unit 23) (rndSize unit 23) (omega arith))
 
-pub first-range-unit : UpTo (rnd (pos unit) 23) unit
-first-range-unit = upTo-of-le (rnd (pos unit) 23) (rndSize unit 23) unit (rndSize-le unit 23 (lit< tt)) first-range
-
--- every stage of the row lies from nought to a whole, and θ is no larger than u
-pub arcStages-range : (w : ℤ) (js : List ℕ) → UpTo w unit → T (rises (arcSteps js) (rndSize unit 23))
-    → UpTo (arcStages w js (rnd (pos unit) 23)) unit
-arcStages-range w js i h = rw (arcStages-worked w js (rnd (pos unit) 23))
-    (worked-range w (arcSteps js) (rnd (pos unit) 23) (rndSize unit 23) i h first-range)
-
+-- the row's value lies from nought to a whole, and θ is no larger than u
 pub arc-factor-range : (w : ℤ) → UpTo w unit → UpTo (arcStages w arcRow (rnd (pos unit) 23)) unit
-arc-factor-range w i = arcStages-range w arcRow i arc-rises
+arc-factor-range w i = rw (arcStages-worked w arcRow (rnd (pos unit) 23))
+    (afterStages-range w (stagesOfArc arcRow) (rnd (pos unit) 23) (rndSize unit 23) i arc-rises first-range)
 
 pub arc-range : (u : ℤ) → UpTo u threeSevenths → UpTo (arc u) threeSevenths
 unfolding arc
@@ -69,7 +63,7 @@ arc-range u i =
 
 -- ---- the error that the steps leave
 
-steps-error : error 184 929 (arcSteps arcRow) 500 ≤ 2364
+steps-error : error 184 929 (stagesOfArc arcRow) 500 ≤ 2364
 unfolding error firstError rndSize
 steps-error = lit≤ tt
 
@@ -102,21 +96,21 @@ module _ (a b : ℕ) (hb : 0 < b) (h : 7 * a ≤ 3 * b) where
 
   -- p, and θ
   stages-worked : Worked (arcStages (squareParts (ratio a b)) arcRow (rnd (pos unit) 23))
-      (numerator (pos (a * a)) (b * b) (arcSteps arcRow) (pos 1) 23) (denominator (b * b) (arcSteps arcRow) 23)
-      (error 184 929 (arcSteps arcRow) 500)
+      (numerator (pos (a * a)) (b * b) (stagesOfArc arcRow) (pos 1) 23) (denominator (b * b) (stagesOfArc arcRow) 23)
+      (error 184 929 (stagesOfArc arcRow) 500)
   stages-worked = rw (arcStages-worked (squareParts (ratio a b)) arcRow (rnd (pos unit) 23))
       (chain (squareParts (ratio a b)) (pos (a * a)) (b * b) 929 184 square-near square-upTo
-      (omega (arith, mul-le-mul h h)) (arcSteps arcRow) (rnd (pos unit) 23) (pos 1) 23 500 (rndSize unit 23) arc-rises
+      (omega (arith, mul-le-mul h h)) (stagesOfArc arcRow) (rnd (pos unit) 23) (pos 1) 23 500 (rndSize unit 23) arc-rises
       first-near first-range)
 
   pub arc-near : Near (arc (ratio a b)) (arcNumerator a b) (arcDenominator a b) 2015
   unfolding arc arcNumerator arcDenominator
   arc-near =
       let p = arcStages (squareParts (ratio a b)) arcRow (rnd (pos unit) 23) in
-      let n = numerator (pos (a * a)) (b * b) (arcSteps arcRow) (pos 1) 23 in
-      let d = denominator (b * b) (arcSteps arcRow) 23 in
+      let n = numerator (pos (a * a)) (b * b) (stagesOfArc arcRow) (pos 1) 23 in
+      let d = denominator (b * b) (stagesOfArc arcRow) 23 in
       near-product-one (ratio a b) p (pos a) n b d 429 1000 500 2364 2015 ratio-near
-      (near-of-le p n d (error 184 929 (arcSteps arcRow) 500) 2364 steps-error (stages-worked .near))
+      (near-of-le p n d (error 184 929 (stagesOfArc arcRow) 500) 2364 steps-error (stages-worked .near))
       (omega arith) (omega (arith, upTo-le p unit (stages-worked .range))) (lit≤ tt)
 
   pub arc-of-ratio-range : UpTo (arc (ratio a b)) threeSevenths

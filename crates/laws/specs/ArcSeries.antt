@@ -1,5 +1,5 @@
 -- The series of the cosine and the sine at the arc's series of a / b are in the ratio b to a, nearly: the identity, and
--- the bound (blueprint, O5).
+-- the bound (docs/MATHEMATICS.md, "The arc's identity").
 use mathlib.Core.Path.{_≡_, ap, _∙_}
 use mathlib.Core.List.{List, [], _∷_}
 use Prim.Native.Nat.{ℕ, _*_, _≤_}
@@ -13,11 +13,11 @@ use Rattle.integers.specs.Ring.{ring, v0, v1, v2, v3, v4, v5, _⊕_, _⊖_, _�
 use Rattle.integers.specs.Power.{power, power-add, power-suc, power-mul, power-power}
 use Rattle.integers.specs.Polynomial.{scale, times, valueAt, sizeAt, length-times, value-plus, value-scale, value-shift}
 use Rattle.integers.specs.Polynomial.{value-times, raises, value-le}
-use Rattle.integers.specs.SeriesSteps.{numerator, denominator, degree, length-coefficients}
+use Rattle.integers.specs.SeriesStages.{numerator, denominator, degree, length-coefficients}
 use Rattle.rules.specs.Units.{unit}
 use Rattle.rules.specs.Reading.{arcRow}
 use Rattle.rules.specs.Series.{whole, sineSeries, cosineSeries}
-use Rattle.laws.specs.Chain.{arcSteps}
+use Rattle.laws.specs.RoundedStages.{stagesOfArc}
 use Rattle.laws.specs.Series.{sineSteps, cosineSteps, sineList, cosineList, identity, whole-power, plain}
 use Rattle.laws.specs.Series.{plain-denominator, sine-is, cosine-is, sine-at, cosine-at}
 use Rattle.laws.specs.Certificates.{arcList, odds, odds-is, arcSquare, sineOfArc, cosineOfArc, arcGap, arcScale}
@@ -28,7 +28,7 @@ use Rattle.laws.specs.Arc.{arcNumerator, arcDenominator}
 
 arc-length : length arcList ≤ 12
 unfolding arcList degree
-arc-length = length-coefficients identity 1 1 (lit≤ tt) (arcSteps arcRow) (pos 1 ∷ []) 0 23 (lit≤ tt)
+arc-length = length-coefficients identity 1 1 (lit≤ tt) (stagesOfArc arcRow) (pos 1 ∷ []) 0 23 (lit≤ tt)
 
 square-length : length arcSquare ≤ 24
 unfolding arcSquare
@@ -53,14 +53,14 @@ module _ (a b : ℕ) where
 
   -- ---- the arc's fraction, and its square
 
-  steps-is : numerator (pos (a * a)) (b * b) (arcSteps arcRow) (pos 1) 23 ≡ at 11 arcList
+  steps-is : numerator (pos (a * a)) (b * b) (stagesOfArc arcRow) (pos 1) 23 ≡ at 11 arcList
   unfolding arcList degree
-  steps-is = plain (pos (a * a)) (b * b) (arcSteps arcRow) 23
+  steps-is = plain (pos (a * a)) (b * b) (stagesOfArc arcRow) 23
 
-  steps-denominator : denominator (b * b) (arcSteps arcRow) 23 ≡ odds * power (b * b) 11
+  steps-denominator : denominator (b * b) (stagesOfArc arcRow) 23 ≡ odds * power (b * b) 11
   unfolding degree
   steps-denominator =
-      plain-denominator (b * b) (arcSteps arcRow) 23 ∙ ap (λ s. s * power (b * b) 11) odds-is
+      plain-denominator (b * b) (stagesOfArc arcRow) 23 ∙ ap (λ s. s * power (b * b) 11) odds-is
 
   numerator-arc : arcNumerator a b ≡ pos a *ℤ at 11 arcList
   unfolding arcNumerator

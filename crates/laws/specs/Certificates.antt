@@ -1,5 +1,5 @@
--- Three bounds on polynomials, computed (blueprint, CERT-ARC, CERT-ADD): the two series at the arc's series, and the
--- two series at half a quarter less an angle. Nothing but these bounds opens the lists.
+-- Three bounds on polynomials, computed (docs/MATHEMATICS.md, "Four certificates"): the two series at the arc's series,
+-- and the two series at half a quarter less an angle. Nothing but these bounds opens the lists.
 use mathlib.Core.Path.{_≡_, refl}
 use mathlib.Core.List.{List, [], _∷_}
 use Prim.Native.Nat.{ℕ, _*_, _≤_}
@@ -7,22 +7,22 @@ use lib.Dec.{leb→le}
 use lib.IntN.{ℤ, pos, negsuc, negℤ}
 use Rattle.integers.specs.Power.{power}
 use Rattle.integers.specs.Polynomial.{plus, scale, times, sizeAt}
-use Rattle.integers.specs.SeriesSteps.{coefficients, scaleOf}
+use Rattle.integers.specs.SeriesStages.{coefficients, scaleOf}
 use Rattle.rules.specs.Units.{unit}
 use Rattle.rules.specs.Reading.{arcRow}
-use Rattle.laws.specs.Chain.{arcSteps}
+use Rattle.laws.specs.RoundedStages.{stagesOfArc}
 use Rattle.laws.specs.Series.{sineSteps, cosineSteps, identity}
 
 -- ---- the arc: the sine of the arc of u is u times its cosine, in the square of u
 
 -- the arc's series over u, times 23 · 21 · .. · 1
 unfoldable pub arcList : List ℤ
-arcList = coefficients (arcSteps arcRow) identity 1 (pos 1 ∷ []) 23
+arcList = coefficients (stagesOfArc arcRow) identity 1 (pos 1 ∷ []) 23
 
 abbrev pub odds : ℕ
 odds = 316234143225
 
-pub odds-is : scaleOf (arcSteps arcRow) 1 23 ≡ odds
+pub odds-is : scaleOf (stagesOfArc arcRow) 1 23 ≡ odds
 unfolding scaleOf
 odds-is = refl
 

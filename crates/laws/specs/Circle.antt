@@ -1,7 +1,8 @@
 -- The raw sine and cosine of x, from nought to half a quarter: their ranges, and how near they are to the series at ANY
--- fraction y / d of a radian that x is near (blueprint, SC). The errors compute, from that of x.
+-- fraction y / d of a radian that x is near (docs/MATHEMATICS.md, "Sine and cosine near their series"). The errors
+-- compute, from that of x.
 use mathlib.Core.Path.{_≡_, refl}
-use mathlib.Core.List.{[], _∷_}
+use mathlib.Core.List.{List, [], _∷_}
 use Prim.Native.Nat.{ℕ, _+_, _*_, _/_, _≤_, _<_}
 use native.Mathlib.Nat.{mul-le-mul, mul-le-mul-left, mul-pos}
 use native.Mathlib.Omega.{arith}
@@ -9,14 +10,14 @@ use lib.Dec.{T, lit<, lit≤}
 use lib.IntN.{ℤ, pos, natAbs, _-ℤ_, _*ℤ_}
 use Rattle.integers.specs.Size.{abs-mul, abs-sub}
 use Rattle.integers.specs.Ring.{ring, v0, v1, v2, _⊖_, _⊗_, lit}
-use Rattle.integers.specs.SeriesSteps.{numerator, denominator}
+use Rattle.integers.specs.SeriesStages.{numerator, denominator}
 use Rattle.rules.specs.Units.{unit}
 use Rattle.rules.specs.Rounding.{rndSize}
 use Rattle.rules.specs.Circle.{squareParts, stages, sineRow, cosineRow, rawSine, rawCosine}
 use Rattle.rules.specs.Series.{whole, sineSeries, cosineSeries}
 use Rattle.laws.specs.UpTo.{UpTo, upTo-pos, upTo-le, upTo-product}
 use Rattle.laws.specs.Near.{Near, near-product-one, near-scale}
-use Rattle.laws.specs.Chain.{error, firstError, rises, circleSteps, stages-worked, worked-range, chain, Worked}
+use Rattle.laws.specs.RoundedStages.{error, firstError, rises, stagesOfCircle, stages-worked, afterStages-range, chain, Worked}
 use Rattle.laws.specs.Series.{sineSteps, cosineSteps, sine-by-steps, cosine-by-steps, sine-whole, cosine-whole}
 
 -- x of half a quarter
@@ -69,23 +70,28 @@ unfoldable pub squareError : ℕ → ℕ
 squareError ε = (500000 + 1572 * ε + 999) / 1000
 
 unfoldable pub sineError : ℕ → ℕ
-sineError ε = (500000 + 786 * error 618 (squareError ε) (circleSteps sineRow) sineLeftOut + 1000 * ε + 999) / 1000
+sineError ε = (500000 + 786 * error 618 (squareError ε) (stagesOfCircle sineRow) sineLeftOut + 1000 * ε + 999) / 1000
 
 unfoldable pub cosineError : ℕ → ℕ
-cosineError ε = error 618 (squareError ε) (circleSteps cosineRow) cosineLeftOut
+cosineError ε = error 618 (squareError ε) (stagesOfCircle cosineRow) cosineLeftOut
 
 -- ---- ranges
 
-sine-rises : T (rises (circleSteps sineRow) unit)
+sine-rises : T (rises (stagesOfCircle sineRow) unit)
 unfolding rndSize
 sine-rises = tt
 
-cosine-rises : T (rises (circleSteps cosineRow) unit)
+cosine-rises : T (rises (stagesOfCircle cosineRow) unit)
 unfolding rndSize
 cosine-rises = tt
 
 pub unit-upTo : UpTo (pos unit) unit
 unit-upTo = upTo-pos unit unit (lit≤ tt)
+
+-- a row's value, from whatever w of its range
+pub stages-range : (w : ℤ) (ks : List ℕ) → UpTo w unit → T (rises (stagesOfCircle ks) unit)
+    → UpTo (stages w ks (pos unit)) unit
+stages-range w ks i h = rw (stages-worked w ks (pos unit)) (afterStages-range w (stagesOfCircle ks) (pos unit) unit i h unit-upTo)
 
 module _ (x : ℤ) (hx : UpTo x halfQuarterParts) where
   pub square-range : UpTo (squareParts x) unit
@@ -93,8 +99,7 @@ module _ (x : ℤ) (hx : UpTo x halfQuarterParts) where
   square-range = upTo-product x x halfQuarterParts halfQuarterParts unit unit hx hx (lit< tt) (lit≤ tt)
 
   pub sine-stages-range : UpTo (stages (squareParts x) sineRow (pos unit)) unit
-  sine-stages-range = rw (stages-worked (squareParts x) sineRow (pos unit))
-      (worked-range (squareParts x) (circleSteps sineRow) (pos unit) unit square-range sine-rises unit-upTo)
+  sine-stages-range = stages-range (squareParts x) sineRow square-range sine-rises
 
   -- the sine is no larger than x
   pub rawSine-range : UpTo (rawSine x) halfQuarterParts
@@ -104,8 +109,7 @@ module _ (x : ℤ) (hx : UpTo x halfQuarterParts) where
 
   pub rawCosine-range : UpTo (rawCosine x) unit
   unfolding rawCosine
-  rawCosine-range = rw (stages-worked (squareParts x) cosineRow (pos unit))
-      (worked-range (squareParts x) (circleSteps cosineRow) (pos unit) unit square-range cosine-rises unit-upTo)
+  rawCosine-range = stages-range (squareParts x) cosineRow square-range cosine-rises
 
 -- ---- nearness
 
@@ -118,19 +122,25 @@ module _ (x y : ℤ) (d ε : ℕ) (hx : UpTo x halfQuarterParts) (hn : Near x y 
   square-le : 1000 * natAbs (y *ℤ y) ≤ 618 * (d * d)
   square-le = rw (abs-mul y y) (omega (arith, mul-le-mul hy hy))
 
-  sine-worked : Worked (stages (squareParts x) sineRow (pos unit)) (numerator (y *ℤ y) (d * d) sineSteps (pos 1) 1)
-      (denominator (d * d) sineSteps 1) (error 618 (squareError ε) (circleSteps sineRow) sineLeftOut)
-  unfolding numerator denominator
-  sine-worked = rw (stages-worked (squareParts x) sineRow (pos unit))
+  -- a row, where a whole stands for n / c, the terms that the row leaves out
+  row-worked : (ks : List ℕ) (n : ℤ) (c e : ℕ) → T (rises (stagesOfCircle ks) unit) → Near (pos unit) n c e
+      → Worked (stages (squareParts x) ks (pos unit)) (numerator (y *ℤ y) (d * d) (stagesOfCircle ks) n c)
+      (denominator (d * d) (stagesOfCircle ks) c) (error 618 (squareError ε) (stagesOfCircle ks) e)
+  row-worked ks n c e h k = rw (stages-worked (squareParts x) ks (pos unit))
       (chain (squareParts x) (y *ℤ y) (d * d) (squareError ε) 618 square-near (square-range x hx) square-le
-      (circleSteps sineRow) (pos unit) _ _ sineLeftOut unit sine-rises
-      (sine-left-out (y *ℤ y) (d * d) (square-near .divisor-pos) square-le) unit-upTo)
+      (stagesOfCircle ks) (pos unit) n c e unit h k unit-upTo)
+
+  sine-worked : Worked (stages (squareParts x) sineRow (pos unit)) (numerator (y *ℤ y) (d * d) sineSteps (pos 1) 1)
+      (denominator (d * d) sineSteps 1) (error 618 (squareError ε) (stagesOfCircle sineRow) sineLeftOut)
+  unfolding numerator denominator
+  sine-worked = row-worked sineRow _ _ sineLeftOut sine-rises
+      (sine-left-out (y *ℤ y) (d * d) (square-near .divisor-pos) square-le)
 
   pub rawSine-near : Near (rawSine x) (sineSeries y d) (whole d) (sineError ε)
   unfolding rawSine sineError
   rawSine-near =
       let p = stages (squareParts x) sineRow (pos unit) in
-      let g = error 618 (squareError ε) (circleSteps sineRow) sineLeftOut in
+      let g = error 618 (squareError ε) (stagesOfCircle sineRow) sineLeftOut in
       rw (sine-by-steps y d, sine-whole d)
       (near-product-one x p y (numerator (y *ℤ y) (d * d) sineSteps (pos 1) 1) d (denominator (d * d) sineSteps 1)
       786 1000 ε g ((500000 + 786 * g + 1000 * ε + 999) / 1000) hn (sine-worked .near) hy
@@ -138,12 +148,10 @@ module _ (x y : ℤ) (d ε : ℕ) (hx : UpTo x halfQuarterParts) (hn : Near x y 
 
   cosine-worked : Worked (stages (squareParts x) cosineRow (pos unit))
       (numerator (y *ℤ y) (d * d) cosineSteps (pos 1) 1) (denominator (d * d) cosineSteps 1)
-      (error 618 (squareError ε) (circleSteps cosineRow) cosineLeftOut)
+      (error 618 (squareError ε) (stagesOfCircle cosineRow) cosineLeftOut)
   unfolding numerator denominator
-  cosine-worked = rw (stages-worked (squareParts x) cosineRow (pos unit))
-      (chain (squareParts x) (y *ℤ y) (d * d) (squareError ε) 618 square-near (square-range x hx) square-le
-      (circleSteps cosineRow) (pos unit) _ _ cosineLeftOut unit cosine-rises
-      (cosine-left-out (y *ℤ y) (d * d) (square-near .divisor-pos) square-le) unit-upTo)
+  cosine-worked = row-worked cosineRow _ _ cosineLeftOut cosine-rises
+      (cosine-left-out (y *ℤ y) (d * d) (square-near .divisor-pos) square-le)
 
   pub rawCosine-near : Near (rawCosine x) (cosineSeries y d) (whole d) (cosineError ε)
   unfolding rawCosine cosineError
@@ -151,7 +159,7 @@ module _ (x y : ℤ) (d ε : ℕ) (hx : UpTo x halfQuarterParts) (hn : Near x y 
       rw (cosine-by-steps y d, cosine-whole d)
       (near-scale (15 * d) (stages (squareParts x) cosineRow (pos unit))
       (numerator (y *ℤ y) (d * d) cosineSteps (pos 1) 1) (denominator (d * d) cosineSteps 1)
-      (error 618 (squareError ε) (circleSteps cosineRow) cosineLeftOut) (omega (arith, hn .divisor-pos))
+      (error 618 (squareError ε) (stagesOfCircle cosineRow) cosineLeftOut) (omega (arith, hn .divisor-pos))
       (cosine-worked .near))
 
 -- the errors where x is exact, where it is the x of an angle, and where it is the θ of a reading

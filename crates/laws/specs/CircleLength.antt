@@ -1,6 +1,6 @@
--- The raw pair's length, and the pair brought to length, for x from nought to half a quarter (blueprint, LEN): the
--- length is within two parts of 2^30 and so never nought, no part moves by more than two, and the pair comes out
--- accepted.
+-- The raw pair's length, and the pair brought to length, for x from nought to half a quarter (docs/MATHEMATICS.md,
+-- "The length of the raw pair"): the length is within two parts of 2^30 and so never nought, no part moves by more than
+-- two, and the pair comes out accepted.
 use mathlib.Core.Path.{_≡_, ap, subst}
 use mathlib.Core.List.{[], _∷_}
 use Prim.Native.Nat.{ℕ, _+_, _*_, _-_, _≤_, _<_, _^_}
@@ -22,9 +22,8 @@ use Rattle.laws.specs.Root.{root-root, root-ge, root-lt}
 use Rattle.laws.specs.Length.{partTo-near, le-root, pairToLength-accepted}
 use Rattle.laws.specs.UpTo.{UpTo, upTo-pos, upTo-is, upTo-le, upTo-product}
 use Rattle.laws.specs.Near.{Near}
-use Rattle.laws.specs.Chain.{circleSteps, worked-range, stages-worked}
-use Rattle.laws.specs.Circle.{halfQuarterParts, unit-upTo, square-range, rawSine-range, rawCosine-range}
-use Rattle.laws.specs.Circle.{rawSine-near, rawCosine-near, errors-exact}
+use Rattle.laws.specs.Circle.{halfQuarterParts, unit-upTo, stages-range, square-range, rawSine-range}
+use Rattle.laws.specs.Circle.{rawCosine-range, rawSine-near, rawCosine-near, errors-exact}
 use Rattle.laws.specs.CircleSquares.{apart, series-squares, squares-near}
 
 -- ---- of x
@@ -125,8 +124,7 @@ module _ (x : ℤ) (hx : UpTo x halfQuarterParts) where
   rawCosine-high =
       let w = squareParts x in
       let p = stages w (132 ∷ 90 ∷ 56 ∷ 30 ∷ 12 ∷ []) (pos unit) in
-      let i : UpTo p unit = rw (stages-worked w (132 ∷ 90 ∷ 56 ∷ 30 ∷ 12 ∷ []) (pos unit))
-      (worked-range w (circleSteps (132 ∷ 90 ∷ 56 ∷ 30 ∷ 12 ∷ [])) (pos unit) unit (square-range x hx) tt unit-upTo) in
+      let i : UpTo p unit = stages-range w (132 ∷ 90 ∷ 56 ∷ 30 ∷ 12 ∷ []) (square-range x hx) tt in
       high (rnd (w *ℤ p) (unit * 2))
       (upTo-product w p unit unit (unit * 2) (2 ^ 29) (square-range x hx) i (lit< tt) (lit≤ tt))
     where

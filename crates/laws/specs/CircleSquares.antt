@@ -1,5 +1,5 @@
 -- The squares' sum of the raw pair is near 2^60: the squares of the two series make one, and the raw sine and cosine
--- are near them (blueprint, CERT-SQ).
+-- are near them (docs/MATHEMATICS.md, "The length of the raw pair").
 use mathlib.Core.Path.{_≡_, ap, subst}
 use mathlib.Core.List.{[], _∷_}
 use Prim.Native.Nat.{ℕ, _+_, _*_, _/_, _≤_, _<_, _^_}

@@ -1,5 +1,5 @@
--- The pair from nought to half a quarter: near the series, by what x is (blueprint, X, HQ, T2); the half-quarter
--- exception gives what the two rows give.
+-- The pair from nought to half a quarter: near the series, by what x is (docs/MATHEMATICS.md,
+-- "The pair within four parts"); the half-quarter exception gives what the two rows give.
 use mathlib.Core.Path.{_≡_, refl, sym, ap, _∙_}
 use mathlib.Core.List.{[], _∷_}
 use mathlib.Core.Bool.{Bool, true, false, cond}

@@ -10,25 +10,25 @@ use Rattle.rules.specs.declared.Instants.{Instants}
 use Rattle.rules.specs.declared.Refusal.{Refusal}
 use Rattle.rules.specs.Units.{within}
 use Rattle.rules.specs.Calendar.{dayNumber, yearRefused, dayRefused}
-use Rattle.rules.specs.Dates.{timeRefused, utOf, ttOf, differenceRefused, instants}
+use Rattle.rules.specs.Dates.{timeRefused, utOf, ttOf, ut1MinusUtcRefused, instants}
 use Rattle.laws.specs.Ranges.{refused-iff, accepted-iff, Between, between-iff}
 use Rattle.laws.specs.DayNumbers.{YearExists, DayExists, year-refused-iff, year-accepted-iff, day-refused-iff}
 use Rattle.laws.specs.DayNumbers.{day-accepted-iff}
 use Rattle.laws.specs.TimeOfDay.{TimeExists, time-refused-iff, time-accepted-iff}
 
--- ---- the difference that is accepted
+-- ---- the UT1−UTC that is accepted
 
 -- UT1−UTC within ±900 ms
-abbrev pub DifferenceSmall : Moment → Type 0
-DifferenceSmall m = Between (negℤ (pos 900)) (pos 900) (m .difference)
+abbrev pub Ut1MinusUtcSmall : Moment → Type 0
+Ut1MinusUtcSmall m = Between (negℤ (pos 900)) (pos 900) (m .«ut1_minus_utc»)
 
-pub difference-refused-iff : (m : Moment) → differenceRefused m ≡ true ↔ ¬ (DifferenceSmall m)
-unfolding differenceRefused within
-difference-refused-iff m = refused-iff _ (between-iff _ _ (m .difference))
+pub ut1-minus-utc-refused-iff : (m : Moment) → ut1MinusUtcRefused m ≡ true ↔ ¬ (Ut1MinusUtcSmall m)
+unfolding ut1MinusUtcRefused within
+ut1-minus-utc-refused-iff m = refused-iff _ (between-iff _ _ (m .«ut1_minus_utc»))
 
-pub difference-accepted-iff : (m : Moment) → differenceRefused m ≡ false ↔ DifferenceSmall m
-unfolding differenceRefused within
-difference-accepted-iff m = accepted-iff _ (between-iff _ _ (m .difference))
+pub ut1-minus-utc-accepted-iff : (m : Moment) → ut1MinusUtcRefused m ≡ false ↔ Ut1MinusUtcSmall m
+unfolding ut1MinusUtcRefused within
+ut1-minus-utc-accepted-iff m = accepted-iff _ (between-iff _ _ (m .«ut1_minus_utc»))
 
 -- ---- refused exactly when
 
@@ -38,12 +38,12 @@ answered a b c d u t =
     cond a (Instants.Refused Refusal.Year)
     (cond b (Instants.Refused Refusal.Day)
     (cond c (Instants.Refused Refusal.Time)
-    (cond d (Instants.Refused Refusal.Difference)
+    (cond d (Instants.Refused Refusal.Ut1MinusUtc)
     (Instants.At u t))))
 
 instants-is : (m : Moment)
     → instants m ≡ answered (yearRefused (m .date)) (dayRefused (m .date)) (timeRefused (dayNumber (m .date)) (m .time))
-    (differenceRefused m) (utOf m) (ttOf m)
+    (ut1MinusUtcRefused m) (utOf m) (ttOf m)
 unfolding instants
 instants-is m = refl
 
@@ -53,7 +53,7 @@ Told (Instants.At u t) a b c d = (a ≡ false) × ((b ≡ false) × ((c ≡ fals
 Told (Instants.Refused Refusal.Year) a b c d = a ≡ true
 Told (Instants.Refused Refusal.Day) a b c d = (a ≡ false) × (b ≡ true)
 Told (Instants.Refused Refusal.Time) a b c d = (a ≡ false) × ((b ≡ false) × (c ≡ true))
-Told (Instants.Refused Refusal.Difference) a b c d = (a ≡ false) × ((b ≡ false) × ((c ≡ false) × (d ≡ true)))
+Told (Instants.Refused Refusal.Ut1MinusUtc) a b c d = (a ≡ false) × ((b ≡ false) × ((c ≡ false) × (d ≡ true)))
 Told (Instants.Refused Refusal.Star) a b c d = ⊥
 Told (Instants.Refused Refusal.Site) a b c d = ⊥
 Told (Instants.Refused Refusal.Direction) a b c d = ⊥
@@ -74,13 +74,13 @@ told false false false false u t = (refl, (refl, (refl, refl)))
 module _ (m : Moment) where
   pub tells : (r : Instants) → instants m ≡ r
       → Told r (yearRefused (m .date)) (dayRefused (m .date)) (timeRefused (dayNumber (m .date)) (m .time))
-      (differenceRefused m)
+      (ut1MinusUtcRefused m)
   tells r e =
       subst (λ x. Told x (yearRefused (m .date)) (dayRefused (m .date)) (timeRefused (dayNumber (m .date)) (m .time))
-      (differenceRefused m))
+      (ut1MinusUtcRefused m))
       (sym (instants-is m) ∙ e)
       (told (yearRefused (m .date)) (dayRefused (m .date)) (timeRefused (dayNumber (m .date)) (m .time))
-      (differenceRefused m) (utOf m) (ttOf m))
+      (ut1MinusUtcRefused m) (utOf m) (ttOf m))
 
   -- refusal 1: exactly when the year is not 1972 to 2099
   pub instants-refused-1 : instants m ≡ Instants.Refused Refusal.Year ↔ ¬ (YearExists (m .date))
@@ -122,18 +122,18 @@ module _ (m : Moment) where
   )
 
   -- refusal 4: exactly when UT1−UTC is not within ±900 ms
-  pub instants-refused-4 : instants m ≡ Instants.Refused Refusal.Difference
+  pub instants-refused-4 : instants m ≡ Instants.Refused Refusal.Ut1MinusUtc
       ↔ YearExists (m .date) × (DayExists (m .date)
-      × (TimeExists (dayNumber (m .date)) (m .time) × ¬ (DifferenceSmall m)))
+      × (TimeExists (dayNumber (m .date)) (m .time) × ¬ (Ut1MinusUtcSmall m)))
   instants-refused-4 = (
     λ e.
-        let u = tells (Instants.Refused Refusal.Difference) e in (
+        let u = tells (Instants.Refused Refusal.Ut1MinusUtc) e in (
           year-accepted-iff (m .date) .0 (u .0),
           (
             day-accepted-iff (m .date) .0 (u .1 .0),
             (
               time-accepted-iff (dayNumber (m .date)) (m .time) .0 (u .1 .1 .0),
-              difference-refused-iff m .0
+              ut1-minus-utc-refused-iff m .0
                   (u .1 .1 .1),
             ),
           ),
@@ -144,13 +144,13 @@ module _ (m : Moment) where
           year-accepted-iff (m .date) .1 (p .0),
           day-accepted-iff (m .date) .1 (p .1 .0),
           time-accepted-iff (dayNumber (m .date)) (m .time) .1 (p .1 .1 .0),
-          difference-refused-iff m .1 (p .1 .1 .1),
+          ut1-minus-utc-refused-iff m .1 (p .1 .1 .1),
         ),
   )
 
   -- and no other way: accepted exactly when all four exist
   pub instants-accepted : instants m ≡ Instants.At (utOf m) (ttOf m)
-      ↔ YearExists (m .date) × (DayExists (m .date) × (TimeExists (dayNumber (m .date)) (m .time) × DifferenceSmall m))
+      ↔ YearExists (m .date) × (DayExists (m .date) × (TimeExists (dayNumber (m .date)) (m .time) × Ut1MinusUtcSmall m))
   instants-accepted = (
     λ e.
         let u = tells (Instants.At (utOf m) (ttOf m)) e in (
@@ -159,7 +159,7 @@ module _ (m : Moment) where
             day-accepted-iff (m .date) .0 (u .1 .0),
             (
               time-accepted-iff (dayNumber (m .date)) (m .time) .0 (u .1 .1 .0),
-              difference-accepted-iff m .0
+              ut1-minus-utc-accepted-iff m .0
                   (u .1 .1 .1),
             ),
           ),
@@ -170,6 +170,6 @@ module _ (m : Moment) where
           year-accepted-iff (m .date) .1 (p .0),
           day-accepted-iff (m .date) .1 (p .1 .0),
           time-accepted-iff (dayNumber (m .date)) (m .time) .1 (p .1 .1 .0),
-          difference-accepted-iff m .1 (p .1 .1 .1),
+          ut1-minus-utc-accepted-iff m .1 (p .1 .1 .1),
         ),
   )

@@ -11,7 +11,7 @@ use Rattle.rules.specs.declared.Refusal.{Refusal}
 use Rattle.rules.specs.Calendar.{dayCount, dayNumber, dateOfCount, dateOfNumber, yearRefused, dayRefused, numberRefused}
 use Rattle.rules.specs.Calendar.{dayOf, dateOf}
 use Rattle.laws.specs.Ranges.{true-not-false, refused-iff, accepted-iff, Between, between-iff}
-use Rattle.laws.specs.Calendar.{date, date-of-day-count, Counted, counted}
+use Rattle.laws.specs.DayCounts.{date, date-of-day-count, Counted, counted}
 use Rattle.laws.specs.DayNumbers.{YearExists, year-refused-iff, DayExists, year-accepted-iff, day-refused-iff}
 use Rattle.laws.specs.DayNumbers.{day-accepted-iff, real-date, day-number-is, count-in-span, in-span}
 use Rattle.laws.specs.DayNumbers.{real-count-lt, real-date-is, date-of-number-is, number-count, real-accepted}

@@ -15,7 +15,8 @@ use Rattle.rules.specs.Calendar.{dayCount, dayNumber, dateOfCount, dateOfNumber
 use Rattle.rules.specs.Calendar.{dayRefused}
 use Rattle.laws.specs.Ranges.{yes, both-true, both-iff, refused-iff, accepted-iff, Between, between-iff}
 use Rattle.laws.specs.Ranges.{le-of-sizes, in-range, of-range}
-use Rattle.laws.specs.Calendar.{before-2000, Real, date, day-count-lt}
+use Rattle.laws.specs.Calendar.{before-2000}
+use Rattle.laws.specs.DayCounts.{Real, date, day-count-lt}
 
 -- ---- dates that exist
 

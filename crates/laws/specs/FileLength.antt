@@ -7,7 +7,7 @@ use lib.ListN.{length, drop, length-append, length-map}
 use Rattle.rules.specs.declared.Star.{Star}
 use Rattle.rules.specs.declared.Entry.{Entry}
 use Rattle.rules.specs.Bytes.{bytesOf, signedBytes}
-use Rattle.rules.specs.StarList.{countIn, fileLength, recordOf, starsIn, stars}
+use Rattle.rules.specs.ListFile.{headLength, recordLength, countIn, fileLength, recordOf, starsIn, stars}
 use Rattle.rules.specs.ListWriting.{starsOf, fileOf}
 use Rattle.laws.specs.Bytes.{signed-length}
 
@@ -16,7 +16,7 @@ use Rattle.laws.specs.Bytes.{signed-length}
 abbrev pub records : List Star → List ℕ
 records ss = foldr (λ s rest. recordOf s ++ rest) [] ss
 
-pub record-length : (s : Star) → length (recordOf s) ≡ 24
+pub record-length : (s : Star) → length (recordOf s) ≡ recordLength
 unfolding recordOf
 record-length s =
     let a = signedBytes 8 (s .ra) in
@@ -34,7 +34,7 @@ record-length s =
       signed-length 4 (s .«declination_motion»),
     )
 
-pub records-length : (ss : List Star) → length (records ss) ≡ 24 * length ss
+pub records-length : (ss : List Star) → length (records ss) ≡ recordLength * length ss
 records-length [] = refl
 records-length (s ∷ ss) = omega (arith, length-append (recordOf s) (records ss), record-length s, records-length ss)
 
@@ -55,7 +55,7 @@ file-length ss =
 pub stars-length : (count : ℕ) (bytes : List ℕ) → length (starsIn count bytes) ≡ count
 unfolding starsIn
 stars-length zero bytes = refl
-stars-length (suc count) bytes = ap suc (stars-length count (drop 24 bytes))
+stars-length (suc count) bytes = ap suc (stars-length count (drop recordLength bytes))
 
 pub starsOf-length : (entries : List Entry) → length (starsOf entries) ≡ length entries
 unfolding starsOf
@@ -63,4 +63,4 @@ starsOf-length entries = length-map entries (λ e. e .star)
 
 pub file-count : (file : List ℕ) → length (stars file) ≡ countIn file
 unfolding stars
-file-count file = stars-length (countIn file) (drop 7 file)
+file-count file = stars-length (countIn file) (drop headLength file)

@@ -1,4 +1,5 @@
--- Half a quarter less an angle y / d, as a fraction, and the series there and at the angle as lists (blueprint, O7).
+-- Half a quarter less an angle y / d, as a fraction, and the series there and at the angle as lists
+-- (docs/MATHEMATICS.md, "Half a quarter less").
 use mathlib.Core.Path.{_≡_}
 use mathlib.Core.List.{[], _∷_}
 use Prim.Native.Nat.{ℕ, _*_, _≤_}
@@ -9,7 +10,7 @@ use lib.IntN.{ℤ, pos, negℤ, _-ℤ_, _*ℤ_}
 use Rattle.integers.specs.Ring.{ring, v0, v1, _⊕_, _⊖_, _⊗_, lit}
 use Rattle.integers.specs.Power.{power}
 use Rattle.integers.specs.Polynomial.{valueAt, length-times, value-times}
-use Rattle.integers.specs.SeriesSteps.{degree, length-coefficients}
+use Rattle.integers.specs.SeriesStages.{degree, length-coefficients}
 use Rattle.laws.specs.Series.{sineSteps, cosineSteps, sineList, cosineList, sine-at, cosine-at}
 use Rattle.laws.specs.Certificates.{over, halfQuarterAngle, less, lessSquare, sineOfLess, cosineOfLess, square}
 use Rattle.laws.specs.Certificates.{sineOver, cosineOver}

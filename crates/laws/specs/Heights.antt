@@ -1,7 +1,8 @@
--- Heights and declinations: within a quarter of nought, and read from two numbers of 32 bits (blueprint, T8).
+-- Heights and declinations: within a quarter of nought, and read from two numbers of 32 bits (docs/MATHEMATICS.md,
+-- "Ranges of a reading").
 use mathlib.Core.Path.{_≡_, refl, sym, ap, _∙_}
 use mathlib.Core.Bool.{Bool, true, false, cond}
-use Prim.Native.Nat.{ℕ, zero, suc, _+_, _*_, _-_, _≤_, _<_}
+use Prim.Native.Nat.{ℕ, zero, suc, _+_, _*_, _-_, _≤_, _<_, _^_}
 use native.Mathlib.Omega.{arith}
 use borrow.Author.Tests.{lt-ltb, le-ltb}
 use lib.IntN.{ℤ, pos, negsuc, natAbs, _-ℤ_, -ℤ-+ℤ-cancel}
@@ -15,7 +16,7 @@ use Rattle.rules.specs.Turning.{Accepted}
 use Rattle.rules.specs.Circle.{pair}
 use Rattle.rules.specs.Reading.{angleToQuarter, notCircle, reading}
 use Rattle.rules.specs.Heights.{asHeight, height}
-use Rattle.laws.specs.Root.{root-lt}
+use Rattle.laws.specs.Root.{root-root, root-lt}
 use Rattle.laws.specs.Directions.{accepted-parts}
 use Rattle.laws.specs.UpTo.{UpTo}
 use Rattle.laws.specs.Angles.{pair-circle}
@@ -78,6 +79,17 @@ pub record HeightGiven (v : Direction) : Type 0 where
   pub y-le : natAbs (v .y) ≤ unit + 1
   pub z-le : natAbs (v .z) ≤ unit + 1
   pub root-le : root (square (v .x) + square (v .y)) ≤ unit + 1
+  pub some : 0 < root (square (v .x) + square (v .y)) + natAbs (v .z)
+
+-- a root and a number are not both nought where the sum of their squares is not
+not-both : (n : ℕ) (z : ℤ) → n < 2 ^ 64 → 0 < n + square z → 0 < root n + natAbs z
+unfolding square
+not-both n z l p = by (root n) (natAbs z) (root-root n l .above) p
+  where
+    by : (r s : ℕ) → n < (r + 1) * (r + 1) → 0 < n + s * s → 0 < r + s
+    by zero zero a q = absurd (omega (arith, a, q))
+    by zero (suc s) a q = omega arith
+    by (suc r) s a q = omega arith
 
 pub height-fits : (v : Direction) → Accepted (squares v) → HeightGiven v
 unfolding squares
@@ -90,4 +102,5 @@ height-fits v h =
       y-le = p .y;
       z-le = p .z;
       root-le = omega (arith, root-lt n (unit + 2) (omega (arith, h .high)) k);
+      some = not-both n (v .z) (omega (arith, h .high)) (omega (arith, h .low));
     }

@@ -14,7 +14,7 @@ use Rattle.rules.specs.declared.Ut.{Ut}
 use Rattle.rules.specs.declared.Refusal.{Refusal}
 use Rattle.rules.specs.declared.Angle.{Angle}
 use Rattle.rules.specs.declared.Precessed.{Precessed}
-use Rattle.rules.specs.declared.Argued.{Argued}
+use Rattle.rules.specs.declared.FiveArguments.{FiveArguments}
 use Rattle.rules.specs.declared.Nutated.{Nutated}
 use Rattle.rules.specs.Units.{century, within}
 use Rattle.rules.specs.Polynomials.{instantRefused, angleAt}
@@ -78,8 +78,8 @@ pub record EachRefusedOutside (t : Tt) (u : Ut) : Type 0 where
   pub precession : RefusedOutside Precessed (t .0) (precessionAt t) (Precessed.Refused Refusal.Instant)
       (Precessed.By (precession t))
   pub obliquity : RefusedOutside Angle (t .0) (obliquityAt t) (Angle.Refused Refusal.Instant) (Angle.Of (obliquity t))
-  pub arguments : RefusedOutside Argued (t .0) (argumentsAt t) (Argued.Refused Refusal.Instant)
-      (Argued.By (arguments t))
+  pub arguments : RefusedOutside FiveArguments (t .0) (argumentsAt t) (FiveArguments.Refused Refusal.Instant)
+      (FiveArguments.By (arguments t))
   pub nutation : RefusedOutside Nutated (t .0) (nutationAt t) (Nutated.Refused Refusal.Instant)
       (Nutated.By (nutation t))
   pub sun : RefusedOutside Angle (t .0) (sunLongitudeAt t) (Angle.Refused Refusal.Instant) (Angle.Of (sunLongitude t))
@@ -95,7 +95,7 @@ each-refused-outside t u = record {
       (λ e. let z : _≡_ {A = ℕ} 0 1 = cc in omega arith);
   obliquity = refused-outside Angle (t .0) (Angle.Refused Refusal.Instant) (Angle.Of (obliquity t))
       (never Refusal.Instant (obliquity t));
-  arguments = refused-outside Argued (t .0) (Argued.Refused Refusal.Instant) (Argued.By (arguments t))
+  arguments = refused-outside FiveArguments (t .0) (FiveArguments.Refused Refusal.Instant) (FiveArguments.By (arguments t))
       (λ e. let z : _≡_ {A = ℕ} 0 1 = cc in omega arith);
   nutation = refused-outside Nutated (t .0) (Nutated.Refused Refusal.Instant) (Nutated.By (nutation t))
       (λ e. let z : _≡_ {A = ℕ} 0 1 = cc in omega arith);

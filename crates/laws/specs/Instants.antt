@@ -15,14 +15,14 @@ use Rattle.rules.specs.declared.Moment.{Moment}
 use Rattle.rules.specs.declared.Instants.{Instants}
 use Rattle.rules.specs.Units.{century, within}
 use Rattle.rules.specs.Calendar.{dayCount, dayNumber, yearRefused, dayRefused}
-use Rattle.rules.specs.Dates.{taiMinusUtc, timeRefused, differenceRefused, msOfDay, utc, utOf, ttOf, instants}
+use Rattle.rules.specs.Dates.{taiMinusUtc, timeRefused, ut1MinusUtcRefused, msOfDay, utc, utOf, ttOf, instants}
 use Rattle.laws.specs.Units.{within-le}
 use Rattle.laws.specs.Ranges.{Between, between-iff, InRange, in-range}
 use Rattle.laws.specs.DayNumbers.{RealDate, real-date, day-number-is}
 use Rattle.laws.specs.DayNumbers.{real-count-lt}
 use Rattle.laws.specs.Seconds.{tai-le}
 use Rattle.laws.specs.TimeOfDay.{TimeExists, time-accepted-iff}
-use Rattle.laws.specs.Dates.{difference-accepted-iff, tells}
+use Rattle.laws.specs.Dates.{ut1-minus-utc-accepted-iff, tells}
 
 -- ---- a time of day, in naturals
 
@@ -82,25 +82,25 @@ utc-parts m r =
     ))
 
 -- a day number of the span, a ms of day, and UT1−UTC
-pub record InstantParts (n t difference : ℤ) : Type 0 where
+pub record InstantParts (n t «ut1_minus_utc» : ℤ) : Type 0 where
   pub day-le : natAbs n ≤ 36524
   pub ms-le : natAbs t ≤ 86400999
-  pub difference-le : natAbs difference ≤ 900
+  pub ut1-minus-utc-le : natAbs «ut1_minus_utc» ≤ 900
 
 -- ---- an accepted moment
 
 pub record RealMoment (m : Moment) : Type 0 where
   pub date : RealDate (m .date)
   pub time : RealTime (m .time)
-  pub difference : natAbs (m .difference) ≤ 900
+  pub «ut1_minus_utc» : natAbs (m .«ut1_minus_utc») ≤ 900
 
 pub real-moment : (m : Moment) → yearRefused (m .date) ≡ false → dayRefused (m .date) ≡ false
-    → timeRefused (dayNumber (m .date)) (m .time) ≡ false → differenceRefused m ≡ false → RealMoment m
+    → timeRefused (dayNumber (m .date)) (m .time) ≡ false → ut1MinusUtcRefused m ≡ false → RealMoment m
 unfolding within
 real-moment m a b c d = record {
   date = real-date (m .date) a b;
   time = real-time (dayNumber (m .date)) (m .time) (time-accepted-iff (dayNumber (m .date)) (m .time) .0 c);
-  difference = within-le 900 (m .difference) (between-iff _ _ (m .difference) .1 (difference-accepted-iff m .0 d));
+  «ut1_minus_utc» = within-le 900 (m .«ut1_minus_utc») (between-iff _ _ (m .«ut1_minus_utc») .1 (ut1-minus-utc-accepted-iff m .0 d));
 }
 
 pub utc-within : (m : Moment) → RealMoment m → natAbs (utc m) ≤ century
@@ -116,10 +116,10 @@ ut-of-within m r =
     let p = utc-parts m (r .time) in
     let l = real-count-lt (m .date) (r .date) in
     let k = ms-count-le (m .time) (r .time) in
-    let d = r .difference in
-    abs-le (utc m +ℤ m .difference) century
-    (omega (arith, add-is (utc m) (m .difference), abs-is (m .difference)))
-    (omega (arith, add-is (utc m) (m .difference), abs-is (m .difference)))
+    let d = r .«ut1_minus_utc» in
+    abs-le (utc m +ℤ m .«ut1_minus_utc») century
+    (omega (arith, add-is (utc m) (m .«ut1_minus_utc»), abs-is (m .«ut1_minus_utc»)))
+    (omega (arith, add-is (utc m) (m .«ut1_minus_utc»), abs-is (m .«ut1_minus_utc»)))
 
 pub tt-of-within : (m : Moment) → RealMoment m → natAbs (ttOf m .0) ≤ century
 unfolding ttOf

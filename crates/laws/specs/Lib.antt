@@ -14,7 +14,7 @@ pub mod Length
 -- sine and cosine: ranges and nearness, the series, the pair, the laws of angles
 pub mod UpTo
 pub mod Near
-pub mod Chain
+pub mod RoundedStages
 pub mod Series
 pub mod Circle
 pub mod Quarters
@@ -37,6 +37,7 @@ pub mod Across
 pub mod Octant
 pub mod Reading
 -- turns, and the angles of an instant
+pub mod Accepted
 pub mod Turn3
 pub mod Return3
 pub mod Turning
@@ -59,28 +60,31 @@ pub mod Checks
 -- dates: spans laid end to end, the calendar
 pub mod Rows
 pub mod Calendar
+pub mod DayCounts
 pub mod DayNumbers
 pub mod DayAndDate
-pub mod Found
+pub mod FindingDates
 pub mod Seconds
 pub mod TimeOfDay
 pub mod Dates
 pub mod Instants
-pub mod Parts
+pub mod OfNumbers
 pub mod Bytes
 pub mod FileParts
 pub mod ByteByByte
 pub mod Records
 pub mod FileLength
 pub mod FileTests
-pub mod StarList
+pub mod ListFile
 pub mod ListWriting
 pub mod StarWidths
+pub mod FileAgain
 pub mod RoundTrip
 pub mod NumbersRoundTrip
 -- lines of `times`
 pub mod Lines
 pub mod Decimal
-pub mod Room
+pub mod PuttingBytes
+pub mod LinesWithEnds
 pub mod Times
-pub mod Sample
+pub mod TimesSample

@@ -11,7 +11,7 @@ use borrow.Author.Tests.{lt-ltb, le-ltb, ltb-false, eqb-true, eq-eqb, ne-eqb, no
 use Rattle.rules.specs.declared.Entry.{Entry}
 use Rattle.rules.specs.declared.Refusal.{Refusal}
 use Rattle.rules.specs.declared.Listed.{Listed}
-use Rattle.rules.specs.StarList.{fileLength, anyRefused}
+use Rattle.rules.specs.ListFile.{mostRecords, fileLength, anyRefused}
 use Rattle.rules.specs.ListWriting.{starsOf, roomRefused, writtenOf, listWritten, numbersWritten}
 use Rattle.rules.specs.ListWriting.{starFrom, countFrom, numberStars, rowRefused}
 use Rattle.laws.specs.Records.{or-false, starsFrom-each, each-length}
@@ -20,11 +20,11 @@ writes-case : (a b : Bool) (n : ℕ) → a ≡ false → b ≡ false → written
 unfolding writtenOf
 writes-case a b n e f = rw (e, f)
 
-pub write-counted : (entries : List Entry) (room : List ℕ) → anyRefused (starsOf entries) ≡ false → length entries ≤ 64
+pub write-counted : (entries : List Entry) (room : List ℕ) → anyRefused (starsOf entries) ≡ false → length entries ≤ mostRecords
     → fileLength (length entries) ≤ length room → listWritten entries room ≡ Listed.Count (fileLength (length entries))
 unfolding listWritten roomRefused
 write-counted entries room a l h =
-    let few = le-ltb 64 (length entries) l in
+    let few = le-ltb mostRecords (length entries) l in
     let fits = le-ltb (length room) (fileLength (length entries)) h in
     writes-case (anyRefused (starsOf entries)) _ (length entries) a (rw few fits)
 
@@ -38,7 +38,7 @@ written-case false false n size e = (refl, (refl, cc))
 -- what is not refused to a writer
 pub record WriteAccepted (entries : List Entry) (room : List ℕ) (size : ℕ) : Type 0 where
   pub not-5 : anyRefused (starsOf entries) ≡ false
-  pub few : length entries ≤ 64
+  pub few : length entries ≤ mostRecords
   pub fits : fileLength (length entries) ≤ length room
   pub size-is : size ≡ fileLength (length entries)
 
@@ -47,10 +47,10 @@ pub write-accepted : (entries : List Entry) (room : List ℕ) (size : ℕ) → l
 unfolding listWritten roomRefused
 write-accepted entries room size e =
     let k = written-case (anyRefused (starsOf entries)) _ (length entries) size e in
-    let l = or-false (ltb 64 (length entries)) (ltb (length room) (fileLength (length entries))) (k .1 .0) in
+    let l = or-false (ltb mostRecords (length entries)) (ltb (length room) (fileLength (length entries))) (k .1 .0) in
     record {
       not-5 = k .0;
-      few = ltb-false 64 (length entries) (l .0);
+      few = ltb-false mostRecords (length entries) (l .0);
       fits = ltb-false (length room) (fileLength (length entries)) (l .1);
       size-is = k .1 .1;
     }
@@ -87,7 +87,7 @@ numbers-counted numbers room a b = writes-case (anyRefused (numberStars numbers)
 pub record RowAccepted (numbers : List ℤ) (room : List ℕ) (size : ℕ) : Type 0 where
   pub not-5 : anyRefused (numberStars numbers) ≡ false
   pub even : length numbers % 4 ≡ 0
-  pub few : countFrom numbers ≤ 64
+  pub few : countFrom numbers ≤ mostRecords
   pub fits : fileLength (countFrom numbers) ≤ length room
   pub size-is : size ≡ fileLength (countFrom numbers)
 
@@ -98,11 +98,11 @@ row-accepted numbers room size e =
     let n = countFrom numbers in
     let k = written-case (anyRefused (numberStars numbers)) _ n size e in
     let l = or-false (not (eqb (length numbers % 4) 0)) _ (k .1 .0) in
-    let m = or-false (ltb 64 n) (ltb (length room) (fileLength n)) (l .1) in
+    let m = or-false (ltb mostRecords n) (ltb (length room) (fileLength n)) (l .1) in
     record {
       not-5 = k .0;
       even = eqb-true (length numbers % 4) 0 (not-false _ (l .0));
-      few = ltb-false 64 n (m .0);
+      few = ltb-false mostRecords n (m .0);
       fits = ltb-false (length room) (fileLength n) (m .1);
       size-is = k .1 .1;
     }
@@ -117,21 +117,21 @@ pub row-even : (numbers : List ℤ) (room : ℕ) → length numbers % 4 ≡ 0
 unfolding rowRefused
 row-even numbers room h = let even = eq-eqb (length numbers % 4) 0 h in rw even
 
-pub room-many : (count room : ℕ) → 64 < count → roomRefused count room ≡ true
+pub room-many : (count room : ℕ) → mostRecords < count → roomRefused count room ≡ true
 unfolding roomRefused
-room-many count room l = let many = lt-ltb 64 count l in rw many
+room-many count room l = let many = lt-ltb mostRecords count l in rw many
 
-pub room-small : (count room : ℕ) → count ≤ 64 → room < fileLength count → roomRefused count room ≡ true
+pub room-small : (count room : ℕ) → count ≤ mostRecords → room < fileLength count → roomRefused count room ≡ true
 unfolding roomRefused
 room-small count room l h =
-    let few = le-ltb 64 count l in
+    let few = le-ltb mostRecords count l in
     let small = lt-ltb room (fileLength count) h in
     rw (few, small)
 
-pub room-enough : (count room : ℕ) → count ≤ 64 → fileLength count ≤ room → roomRefused count room ≡ false
+pub room-enough : (count room : ℕ) → count ≤ mostRecords → fileLength count ≤ room → roomRefused count room ≡ false
 unfolding roomRefused
 room-enough count room l h =
-    let few = le-ltb 64 count l in
+    let few = le-ltb mostRecords count l in
     let enough = le-ltb room (fileLength count) h in
     rw (few, enough)
 

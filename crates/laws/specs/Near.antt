@@ -1,5 +1,6 @@
--- Nearness (blueprint, toolkit A): a whole number p is the fraction n / d of 2^30 parts, within e thousandths of a
--- part. What keeps it: `near-scale`, `near-moved`, `near-of-le` (A0), `near-product` (A1), `near-less` (A2).
+-- Nearness (docs/MATHEMATICS.md, "Nearness"): a whole number p is the fraction n / d of 2^30 parts, within e
+-- thousandths of a part. What keeps it: `near-scale`, `near-moved`, `near-of-le` (A0), `near-product` (A1), `near-less`
+-- (A2).
 use mathlib.Core.Path.{_≡_, sym, ap, subst}
 use mathlib.Core.List.{[], _∷_}
 use Prim.Native.Nat.{ℕ, _+_, _*_, _≤_, _<_}

@@ -1,4 +1,4 @@
--- The pair of the next angle: neither part moves by more than seven (blueprint, ST).
+-- The pair of the next angle: neither part moves by more than seven (docs/MATHEMATICS.md, "Neighbouring angles").
 use mathlib.Core.Path.{_≡_, refl, ap}
 use mathlib.Core.List.{[], _∷_}
 use Prim.Native.Nat.{ℕ, zero, suc, _+_, _*_, _-_, _≤_, _<_}

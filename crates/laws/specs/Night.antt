@@ -109,26 +109,26 @@ obliquity-le t h = le-trans (polynomial-le obliquityRow (t .0) h) (lit≤ tt)
 pub record NightFits (n : Night) : Type 0 where
   pub instant : InRange (n .tt .0)
   pub zeta : Accepted (pairSquares (n .zeta))
-  pub theta : Accepted (pairSquares (n .theta))
+  pub minus-theta : Accepted (pairSquares (n .«minus_theta»))
   pub z : Accepted (pairSquares (n .z))
   pub aberration : PartsLe mostAdded (n .aberration)
-  pub mean : Accepted (pairSquares (n .mean))
-  pub longitude : Accepted (pairSquares (n .longitude))
-  pub obliquity : Accepted (pairSquares (n .obliquity))
-  pub sidereal : Accepted (pairSquares (n .sidereal))
-  pub latitude : Accepted (pairSquares (n .latitude))
+  pub minus-epsilon : Accepted (pairSquares (n .«minus_epsilon»))
+  pub delta-psi : Accepted (pairSquares (n .«delta_psi»))
+  pub true-epsilon : Accepted (pairSquares (n .«true_epsilon»))
+  pub minus-sidereal : Accepted (pairSquares (n .«minus_sidereal»))
+  pub latitude-less-quarter : Accepted (pairSquares (n .«latitude_less_quarter»))
 
 pub night-fits : (ut : Ut) (tt : Tt) (site : Site) → InRange (tt .0) → NightFits (night ut tt site)
 unfolding night
 night-fits ut tt site h = record {
   instant = h;
   zeta = pair-length _;
-  theta = pair-length _;
+  minus-theta = pair-length _;
   z = pair-length _;
   aberration = aberration-le (pair (sunLongitude tt)) (pair (obliquity tt)) (pair-sized _) (pair-sized _);
-  mean = pair-length _;
-  longitude = pair-length _;
-  obliquity = pair-length _;
-  sidereal = pair-length _;
-  latitude = pair-length _;
+  minus-epsilon = pair-length _;
+  delta-psi = pair-length _;
+  true-epsilon = pair-length _;
+  minus-sidereal = pair-length _;
+  latitude-less-quarter = pair-length _;
 }

@@ -11,54 +11,55 @@ use lib.IntN.{ℤ, pos}
 use borrow.Author.Tests.{lt-ltb}
 use Rattle.rules.specs.declared.Star.{Star}
 use Rattle.rules.specs.declared.Listed.{Listed}
-use Rattle.rules.specs.declared.Starred.{Starred}
+use Rattle.rules.specs.declared.ListedStar.{ListedStar}
 use Rattle.rules.specs.Years.{upFrom}
 use Rattle.rules.specs.Refusals.{given}
-use Rattle.rules.specs.Answers.{starredAnswer}
-use Rattle.rules.specs.StarList.{fileLength, starIn, starsIn, stars, anyRefused}
+use Rattle.rules.specs.Answers.{listedStarAnswer}
+use Rattle.rules.specs.ListFile.{fileLength, starIn, starsIn, stars, anyRefused}
 use Rattle.rules.specs.ListReading.{listCount, leaving, starAt, listStar}
 use Rattle.rules.specs.ListWriting.{starFrom, starsFrom, countFrom, numberStars, fileOf}
 use Rattle.rules.specs.ListWriting.{numbersWritten, roomAfterNumbers}
+use Rattle.rules.specs.ListFile.{headLength, recordLength, mostRecords}
 use Rattle.laws.specs.Bytes.{Bytes}
 use Rattle.laws.specs.Records.{starsIn-each, starsFrom-each, each-nth}
 use Rattle.laws.specs.FileLength.{file-length, file-count}
 use Rattle.laws.specs.FileTests.{headed, counted}
-use Rattle.laws.specs.StarList.{file-accepted, accepted-size, accepted-few}
+use Rattle.laws.specs.ListFile.{file-accepted, accepted-size, accepted-few}
 use Rattle.laws.specs.StarWidths.{all-fit}
 use Rattle.laws.specs.ListWriting.{row-even, room-enough, numbers-counted, row-accepted, number-count}
-use Rattle.laws.specs.RoundTrip.{file-again, file-kept, stars-again}
+use Rattle.laws.specs.FileAgain.{file-again, file-kept, stars-again}
 
 -- the four numbers of a star, as they are answered
 abbrev fourOf : Star → List ℤ
-fourOf s = starredAnswer (Starred.Of s) .values
+fourOf s = listedStarAnswer (ListedStar.Of s) .values
 
 -- the numbers of the stars of a file by their indexes, from 0 to below the count, one behind the other
 abbrev pub numbersIn : List ℕ → ℕ → List ℤ
-numbersIn file count = flatMap (λ i. starredAnswer (listStar file i) .values) (upFrom 0 count)
+numbersIn file count = flatMap (λ i. listedStarAnswer (listStar file i) .values) (upFrom 0 count)
 
 -- ---- the stars of a file, one by one
 
 -- a star of an accepted file by its index
 star-of : (file : List ℕ) (count i : ℕ) → listCount file ≡ Listed.Count count → i < count
-    → listStar file i ≡ Starred.Of (starIn (drop (24 * i) (drop 7 file)))
+    → listStar file i ≡ ListedStar.Of (starIn (drop (recordLength * i) (drop headLength file)))
 unfolding listStar starAt fileLength
 star-of file count i e l =
     let below = lt-ltb i count l in
-    rw (e, below) (ap (λ bytes. Starred.Of (starIn bytes)) (sym (drop-drop (24 * i) 7 file)))
+    rw (e, below) (ap (λ bytes. ListedStar.Of (starIn bytes)) (sym (drop-drop (recordLength * i) headLength file)))
 
 -- the last `left` of them
 stars-from : (file : List ℕ) (count : ℕ) → listCount file ≡ Listed.Count count → (left i : ℕ) → i + left ≡ count
-    → flatMap (λ j. starredAnswer (listStar file j) .values) (upFrom i left)
-    ≡ flatMap fourOf (starsIn left (drop (24 * i) (drop 7 file)))
+    → flatMap (λ j. listedStarAnswer (listStar file j) .values) (upFrom i left)
+    ≡ flatMap fourOf (starsIn left (drop (recordLength * i) (drop headLength file)))
 unfolding flatMap upFrom starsIn
 stars-from file count e zero i h = refl
 stars-from file count e (suc left) i h =
-    let bytes = drop 7 file in
-    let next : 24 * suc i ≡ 24 * i + 24 = omega arith in
-    let further = ap (λ n. drop n bytes) next ∙ sym (drop-drop 24 (24 * i) bytes) in
-    (λ j. starredAnswer (star-of file count i e (omega (arith, h)) j) .values
+    let bytes = drop headLength file in
+    let next : recordLength * suc i ≡ recordLength * i + recordLength = omega arith in
+    let further = ap (λ n. drop n bytes) next ∙ sym (drop-drop recordLength (recordLength * i) bytes) in
+    (λ j. listedStarAnswer (star-of file count i e (omega (arith, h)) j) .values
     ++ stars-from file count e left (suc i) (omega (arith, h)) j)
-    ∙ ap (λ rest. fourOf (starIn (drop (24 * i) bytes)) ++ flatMap fourOf (starsIn left rest)) further
+    ∙ ap (λ rest. fourOf (starIn (drop (recordLength * i) bytes)) ++ flatMap fourOf (starsIn left rest)) further
 
 -- all of them
 numbers-in : (file : List ℕ) (count : ℕ) → listCount file ≡ Listed.Count count
@@ -66,17 +67,17 @@ numbers-in : (file : List ℕ) (count : ℕ) → listCount file ≡ Listed.Count
 unfolding stars
 numbers-in file count e =
     stars-from file count e count 0 (omega arith)
-    ∙ ap (λ n. flatMap fourOf (starsIn n (drop 7 file))) (file-accepted file count e .count-is)
+    ∙ ap (λ n. flatMap fourOf (starsIn n (drop headLength file))) (file-accepted file count e .count-is)
 
 -- ---- read star by star and written back, a file is byte-equal
 
 row-length : (ss : List Star) → length (flatMap fourOf ss) ≡ 4 * length ss
-unfolding flatMap starredAnswer given
+unfolding flatMap listedStarAnswer given
 row-length [] = refl
 row-length (s ∷ ss) = omega (arith, row-length ss)
 
 row-stars : (ss : List Star) → starsFrom (length ss) (flatMap fourOf ss) ≡ ss
-unfolding flatMap starredAnswer given starsFrom starFrom
+unfolding flatMap listedStarAnswer given starsFrom starFrom
 row-stars [] = refl
 row-stars (s ∷ ss) = ap (λ r. s ∷ r) (row-stars ss)
 
@@ -114,8 +115,8 @@ fourAt numbers i =
     ∷ getD numbers (4 * i + 2) (pos 0) ∷ getD numbers (4 * i + 3) (pos 0) ∷ []
 
 star-at : (numbers : List ℤ) (i : ℕ)
-    → starredAnswer (Starred.Of (starFrom (drop (4 * i) numbers))) ≡ given (fourAt numbers i)
-unfolding starFrom starredAnswer given
+    → listedStarAnswer (ListedStar.Of (starFrom (drop (4 * i) numbers))) ≡ given (fourAt numbers i)
+unfolding starFrom listedStarAnswer given
 star-at numbers i =
     let first : 4 * i + 0 ≡ 4 * i = omega arith in
     simp (getD-drop, first)
@@ -123,7 +124,7 @@ star-at numbers i =
 -- the numbers of a row's stars are the row
 row-again : (count : ℕ) (numbers : List ℤ) → length numbers ≡ 4 * count
     → flatMap fourOf (starsFrom count numbers) ≡ numbers
-unfolding flatMap starredAnswer given starsFrom starFrom
+unfolding flatMap listedStarAnswer given starsFrom starFrom
 row-again zero [] h = refl
 row-again zero (a ∷ rest) h = absurd (omega (arith, h))
 row-again (suc count) [] h = absurd (omega (arith, h))
@@ -137,31 +138,31 @@ row-again (suc count) (a ∷ b ∷ c ∷ d ∷ rest) h =
 -- numbers, and no number of the row is left over
 pub record ReadBack (numbers : List ℤ) (file : List ℕ) : Type 0 where
   pub count : listCount file ≡ Listed.Count (length numbers / 4)
-  pub star : (i : ℕ) → i < length numbers / 4 → starredAnswer (listStar file i) ≡ given (fourAt numbers i)
+  pub star : (i : ℕ) → i < length numbers / 4 → listedStarAnswer (listStar file i) ≡ given (fourAt numbers i)
   pub row : numbersIn file (length numbers / 4) ≡ numbers
 
 -- of the file of a row
-file-back : (numbers : List ℤ) → length numbers % 4 ≡ 0 → countFrom numbers ≤ 64
+file-back : (numbers : List ℤ) → length numbers % 4 ≡ 0 → countFrom numbers ≤ mostRecords
     → anyRefused (numberStars numbers) ≡ false → ReadBack numbers (fileOf (numberStars numbers))
 unfolding numberStars countFrom
 file-back numbers even few none =
     let n = countFrom numbers in
     let ss = numberStars numbers in
     let file = fileOf ss in
-    let bytes = drop 7 file in
+    let bytes = drop headLength file in
     let many = number-count numbers in
     let count : listCount file ≡ Listed.Count n =
     file-kept ss (omega (arith, few, many)) none ∙ ap Listed.Count many in
-    let same : starsIn n bytes ≡ ss = (λ j. starsIn (sym many j) (drop 7 (sym (append-nil file) j)))
+    let same : starsIn n bytes ≡ ss = (λ j. starsIn (sym many j) (drop headLength (sym (append-nil file) j)))
     ∙ stars-again ss [] (all-fit ss none) in
     let each-same = sym (starsIn-each n bytes) ∙ same ∙ starsFrom-each n numbers in
-    let other = Starred.Of (starIn []) in
+    let other = ListedStar.Of (starIn []) in
     record {
       count = count;
-      star = λ i l. ap starredAnswer (star-of file n i count l
-          ∙ sym (each-nth starIn 24 Starred.Of n i bytes other l)
-          ∙ ap (λ r. getD (map Starred.Of r) i other) each-same
-          ∙ each-nth starFrom 4 Starred.Of n i numbers other l) ∙ star-at numbers i;
+      star = λ i l. ap listedStarAnswer (star-of file n i count l
+          ∙ sym (each-nth starIn recordLength ListedStar.Of n i bytes other l)
+          ∙ ap (λ r. getD (map ListedStar.Of r) i other) each-same
+          ∙ each-nth starFrom 4 ListedStar.Of n i numbers other l) ∙ star-at numbers i;
       row = stars-from file n count n 0 (omega arith) ∙ ap (flatMap fourOf) same
           ∙ row-again n numbers (omega (arith, even));
     }

@@ -12,7 +12,7 @@ use Rattle.rules.specs.declared.Tt.{Tt}
 use Rattle.rules.specs.declared.Term.{Term}
 use Rattle.rules.specs.Units.{unit, −_}
 use Rattle.rules.specs.Rounding.{rnd, rndSize, modulo}
-use Rattle.rules.specs.Polynomials.{step, polynomial}
+use Rattle.rules.specs.Polynomials.{timesTPlus, polynomial}
 use Rattle.rules.specs.Arguments.{arguments}
 use Rattle.rules.specs.Length.{rootFrom, root, square, pairSquares, partTo, pairToLength}
 use Rattle.rules.specs.Circle.{radianParts, squareParts, stage, stages, rawSine, rawCosine, pairOfParts, pairToHalf}
@@ -122,7 +122,7 @@ pub record RoundedOnce : Type 0 where
   pub each-apart : total (map (λ m. rnd (obliquityProduct atJ2000 m) unit) terms) ≡ − 5771223
 
 pub rounded-once : RoundedOnce
-unfolding rnd rndSize modulo step polynomial arguments rootFrom root square pairSquares partTo pairToLength radianParts
+unfolding rnd rndSize modulo timesTPlus polynomial arguments rootFrom root square pairSquares partTo pairToLength radianParts
     squareParts stage stages rawSine rawCosine pairOfParts pairToHalf exchangedPair pairToQuarter inQuarter folded pair
     termAngle longitudeProduct obliquityProduct total nutationBy nutation
 rounded-once = record { once = refl; each-apart = refl }

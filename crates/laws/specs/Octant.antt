@@ -1,4 +1,5 @@
--- The two promises of a reading in the first octant, for the pair of the angle that it gives (blueprint, O6 to O8).
+-- The two promises of a reading in the first octant, for the pair of the angle that it gives (docs/MATHEMATICS.md,
+-- "The first octant").
 use mathlib.Core.Path.{_≡_, sym, subst}
 use Prim.Native.Nat.{ℕ, _+_, _*_, _-_, _≤_, _<_}
 use native.Mathlib.Nat.{mul-pos, lt-of-not-le}

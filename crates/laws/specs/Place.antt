@@ -106,7 +106,7 @@ module _ (n : Night) (h : NightFits n) where
   unfolding precessed
   precessed-accepted v k =
       turnBy-accepted (+ 3) (n .z) _ (h .z)
-      (turnBy-accepted (+ 2) (n .theta) _ (h .theta)
+      (turnBy-accepted (+ 2) (n .«minus_theta») _ (h .minus-theta)
       (turnBy-accepted (+ 3) (n .zeta) v (h .zeta) k))
 
   pub aberrated-accepted : (v : Direction) → Accepted (squares v) → Accepted (squares (aberrated n v))
@@ -116,14 +116,14 @@ module _ (n : Night) (h : NightFits n) where
   pub nutated-accepted : (v : Direction) → Accepted (squares v) → Accepted (squares (nutated n v))
   unfolding nutated
   nutated-accepted v k =
-      turnBy-accepted (+ 1) (n .obliquity) _ (h .obliquity)
-      (turnBy-accepted (+ 3) (n .longitude) _ (h .longitude)
-      (turnBy-accepted (+ 1) (n .mean) v (h .mean) k))
+      turnBy-accepted (+ 1) (n .«true_epsilon») _ (h .true-epsilon)
+      (turnBy-accepted (+ 3) (n .«delta_psi») _ (h .delta-psi)
+      (turnBy-accepted (+ 1) (n .«minus_epsilon») v (h .minus-epsilon) k))
 
   pub overhead-accepted : (v : Direction) → Accepted (squares v) → Accepted (squares (overhead n v))
   unfolding overhead
   overhead-accepted v k =
-      turnBy-accepted (+ 2) (n .latitude) _ (h .latitude) (turnBy-accepted (+ 3) (n .sidereal) v (h .sidereal) k)
+      turnBy-accepted (+ 2) (n .«latitude_less_quarter») _ (h .latitude-less-quarter) (turnBy-accepted (+ 3) (n .«minus_sidereal») v (h .minus-sidereal) k)
 
   pub apparent-accepted : (s : Star) → Accepted (squares (apparent n s))
   unfolding apparent

@@ -6,7 +6,7 @@ use Prim.Native.Nat.{ℕ, _+_, _≤_}
 use native.Mathlib.Omega.{arith}
 use lib.Dec.{T, le→leb}
 use lib.IntN.{ℤ, pos, negsuc, natAbs}
-use lib.Signed.{ltZ, leZ, _≤ℤ_}
+use lib.Signed.{ltZ, _≤ℤ_}
 use borrow.Author.Tests.{le-ltb}
 use Rattle.integers.specs.Difference.{posPart, negPart, leZ-true}
 use Rattle.rules.specs.Units.{same, between}

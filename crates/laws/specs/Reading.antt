@@ -1,5 +1,5 @@
--- The two promises of a reading, of every (h, v) but (0, 0), with the pair of the answer (blueprint, T7): from the
--- first octant to the whole circle, by the laws of angles.
+-- The two promises of a reading, of every (h, v) but (0, 0), with the pair of the answer (docs/MATHEMATICS.md,
+-- "The whole circle of a reading"): from the first octant to the whole circle, by the laws of angles.
 use mathlib.Core.Path.{_≡_, refl, sym, ap, _∙_}
 use mathlib.Core.Bool.{Bool, true, false, cond}
 use mathlib.Core.List.{[], _∷_}

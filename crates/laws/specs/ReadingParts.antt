@@ -1,5 +1,5 @@
--- The x that the sine works with at the angle of a reading: θ itself, or half a quarter less θ (blueprint, O4). No π
--- enters.
+-- The x that the sine works with at the angle of a reading: θ itself, or half a quarter less θ (docs/MATHEMATICS.md,
+-- "The x of a reading"). No π enters.
 use mathlib.Core.Path.{_≡_, ap, _∙_}
 use mathlib.Core.List.{[], _∷_}
 use Prim.Native.Nat.{ℕ, _+_, _*_, _-_, _≤_}

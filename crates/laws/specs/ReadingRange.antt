@@ -1,5 +1,5 @@
--- Where a reading lies: the angle to half a quarter, to a quarter, by the signs (blueprint, T8). What each case of the
--- rule is, by one equation.
+-- Where a reading lies: the angle to half a quarter, to a quarter, by the signs (docs/MATHEMATICS.md,
+-- "Ranges of a reading"). What each case of the rule is, by one equation.
 use mathlib.Core.Path.{_≡_, refl}
 use mathlib.Core.Bool.{Bool, true, false, cond, _&&_}
 use Prim.Native.Nat.{ℕ, zero, suc, _+_, _*_, _-_, _≤_, _<_, min, max}

@@ -10,7 +10,7 @@ use Rattle.rules.specs.Refusals.{number}
 -- in the order of their numbers
 abbrev pub refusals : List Refusal
 refusals =
-    Refusal.Year ∷ Refusal.Day ∷ Refusal.Time ∷ Refusal.Difference ∷ Refusal.Star ∷ Refusal.Site ∷ Refusal.Direction
+    Refusal.Year ∷ Refusal.Day ∷ Refusal.Time ∷ Refusal.Ut1MinusUtc ∷ Refusal.Star ∷ Refusal.Site ∷ Refusal.Direction
     ∷ Refusal.Turn ∷ Refusal.Mark ∷ Refusal.Count ∷ Refusal.Room ∷ Refusal.Instant ∷ Refusal.Length ∷ []
 
 abbrev refusalOf : ℕ → Refusal
@@ -21,7 +21,7 @@ unfolding number
 refusalOf-number Refusal.Year = refl
 refusalOf-number Refusal.Day = refl
 refusalOf-number Refusal.Time = refl
-refusalOf-number Refusal.Difference = refl
+refusalOf-number Refusal.Ut1MinusUtc = refl
 refusalOf-number Refusal.Star = refl
 refusalOf-number Refusal.Site = refl
 refusalOf-number Refusal.Direction = refl
@@ -40,7 +40,7 @@ unfolding number
 number-pos Refusal.Year = lit< tt
 number-pos Refusal.Day = lit< tt
 number-pos Refusal.Time = lit< tt
-number-pos Refusal.Difference = lit< tt
+number-pos Refusal.Ut1MinusUtc = lit< tt
 number-pos Refusal.Star = lit< tt
 number-pos Refusal.Site = lit< tt
 number-pos Refusal.Direction = lit< tt

@@ -16,17 +16,17 @@ use Rattle.rules.specs.declared.Instants.{Instants}
 use Rattle.rules.specs.declared.Line.{Line}
 use Rattle.rules.specs.declared.Angle.{Angle}
 use Rattle.rules.specs.declared.Precessed.{Precessed}
-use Rattle.rules.specs.declared.Argued.{Argued}
+use Rattle.rules.specs.declared.FiveArguments.{FiveArguments}
 use Rattle.rules.specs.declared.Nutated.{Nutated}
 use Rattle.rules.specs.declared.Turned.{Turned}
 use Rattle.rules.specs.declared.Prepared.{Prepared}
 use Rattle.rules.specs.declared.Placed.{Placed}
 use Rattle.rules.specs.declared.Listed.{Listed}
-use Rattle.rules.specs.declared.Starred.{Starred}
+use Rattle.rules.specs.declared.ListedStar.{ListedStar}
 use Rattle.rules.specs.Refusals.{Answer, given, refused, otherForm}
 use Rattle.rules.specs.Answers.{numberedAnswer, datedAnswer, instantsAnswer, momentNumbers, lineAnswer}
-use Rattle.rules.specs.Answers.{angleAnswer, precessedAnswer, arguedAnswer, nutatedAnswer, turnedAnswer, placedAnswer}
-use Rattle.rules.specs.Answers.{listedAnswer, starredAnswer, parts, preparedAnswer}
+use Rattle.rules.specs.Answers.{angleAnswer, precessedAnswer, fiveArgumentsAnswer, nutatedAnswer, turnedAnswer, placedAnswer}
+use Rattle.rules.specs.Answers.{listedAnswer, listedStarAnswer, parts, preparedAnswer}
 use Rattle.laws.specs.RefusalNumbers.{number-pos, number-one}
 
 -- what is refused has a number that no answer has
@@ -79,7 +79,7 @@ abbrev pub momentAt : List ℤ → Moment
 momentAt zs = record {
   date = record { year = at zs 0; month = at zs 1; day = at zs 2 };
   time = record { hour = at zs 3; minute = at zs 4; second = at zs 5; ms = at zs 6 };
-  difference = at zs 7;
+  «ut1_minus_utc» = at zs 7;
 }
 
 pub line-one : (a b : Line) → lineAnswer a ≡ lineAnswer b → a ≡ b
@@ -105,19 +105,19 @@ precessed-one (Precessed.By p) (Precessed.Refused s) e = never s 3 _ e
 precessed-one (Precessed.Refused r) (Precessed.By p) e = never r 3 _ (sym e)
 precessed-one (Precessed.Refused r) (Precessed.Refused s) e = ap Precessed.Refused (same-refusal r s 3 e)
 
-pub argued-one : (a b : Argued) → arguedAnswer a ≡ arguedAnswer b → a ≡ b
-unfolding arguedAnswer
-argued-one (Argued.By x) (Argued.By x′) e =
-    ap (λ zs. Argued.By (record {
+pub five-arguments-one : (a b : FiveArguments) → fiveArgumentsAnswer a ≡ fiveArgumentsAnswer b → a ≡ b
+unfolding fiveArgumentsAnswer
+five-arguments-one (FiveArguments.By x) (FiveArguments.By x′) e =
+    ap (λ zs. FiveArguments.By (record {
       moon = at zs 0;
       sun = at zs 1;
       latitude = at zs 2;
       elongation = at zs 3;
       node = at zs 4;
     })) (same-values _ _ e)
-argued-one (Argued.By x) (Argued.Refused s) e = never s 5 _ e
-argued-one (Argued.Refused r) (Argued.By x) e = never r 5 _ (sym e)
-argued-one (Argued.Refused r) (Argued.Refused s) e = ap Argued.Refused (same-refusal r s 5 e)
+five-arguments-one (FiveArguments.By x) (FiveArguments.Refused s) e = never s 5 _ e
+five-arguments-one (FiveArguments.Refused r) (FiveArguments.By x) e = never r 5 _ (sym e)
+five-arguments-one (FiveArguments.Refused r) (FiveArguments.Refused s) e = ap FiveArguments.Refused (same-refusal r s 5 e)
 
 pub nutated-one : (a b : Nutated) → nutatedAnswer a ≡ nutatedAnswer b → a ≡ b
 unfolding nutatedAnswer
@@ -153,18 +153,18 @@ listed-one (Listed.Count n) (Listed.Refused s) e = never s 1 _ e
 listed-one (Listed.Refused r) (Listed.Count n) e = never r 1 _ (sym e)
 listed-one (Listed.Refused r) (Listed.Refused s) e = ap Listed.Refused (same-refusal r s 1 e)
 
-pub starred-one : (a b : Starred) → starredAnswer a ≡ starredAnswer b → a ≡ b
-unfolding starredAnswer
-starred-one (Starred.Of s) (Starred.Of t) e =
-    ap (λ zs. Starred.Of (record {
+pub listed-star-one : (a b : ListedStar) → listedStarAnswer a ≡ listedStarAnswer b → a ≡ b
+unfolding listedStarAnswer
+listed-star-one (ListedStar.Of s) (ListedStar.Of t) e =
+    ap (λ zs. ListedStar.Of (record {
       ra = at zs 0;
       declination = at zs 1;
       «ra_motion» = at zs 2;
       «declination_motion» = at zs 3;
     })) (same-values _ _ e)
-starred-one (Starred.Of s) (Starred.Refused r) e = never r 4 _ e
-starred-one (Starred.Refused r) (Starred.Of s) e = never r 4 _ (sym e)
-starred-one (Starred.Refused r) (Starred.Refused s) e = ap Starred.Refused (same-refusal r s 4 e)
+listed-star-one (ListedStar.Of s) (ListedStar.Refused r) e = never r 4 _ e
+listed-star-one (ListedStar.Refused r) (ListedStar.Of s) e = never r 4 _ (sym e)
+listed-star-one (ListedStar.Refused r) (ListedStar.Refused s) e = ap ListedStar.Refused (same-refusal r s 4 e)
 
 abbrev pairAt : List ℤ → ℕ → Pair
 pairAt zs i = record { cosine = at zs i; sine = at zs (i + 1) }
@@ -175,14 +175,14 @@ prepared-one (Prepared.For n) (Prepared.For m) e =
     ap (λ zs. Prepared.For (record {
       tt = record { 0 = at zs 0 };
       zeta = pairAt zs 1;
-      theta = pairAt zs 3;
+      «minus_theta» = pairAt zs 3;
       z = pairAt zs 5;
       aberration = record { x = at zs 7; y = at zs 8; z = at zs 9 };
-      mean = pairAt zs 10;
-      longitude = pairAt zs 12;
-      obliquity = pairAt zs 14;
-      sidereal = pairAt zs 16;
-      latitude = pairAt zs 18;
+      «minus_epsilon» = pairAt zs 10;
+      «delta_psi» = pairAt zs 12;
+      «true_epsilon» = pairAt zs 14;
+      «minus_sidereal» = pairAt zs 16;
+      «latitude_less_quarter» = pairAt zs 18;
     })) (same-values _ _ e)
 prepared-one (Prepared.For n) (Prepared.Refused s) e = never s 20 _ e
 prepared-one (Prepared.Refused r) (Prepared.For n) e = never r 20 _ (sym e)

@@ -16,11 +16,11 @@ use Rattle.rules.specs.Rounding.{rnd, rndSize, modulo, remainder}
 use Rattle.rules.specs.Years.{leap, months, sum, upFrom, years}
 use Rattle.rules.specs.Calendar.{daysBefore2000, dayCount, dayNumber, yearRefused, monthDays, dayRefused}
 use Rattle.rules.specs.Dates.{taiMinusUtc, beforeStep, lastSecond, timeRefused, msOfDay, utc, utOf, ttOf}
-use Rattle.rules.specs.Dates.{differenceRefused, instants}
+use Rattle.rules.specs.Dates.{ut1MinusUtcRefused, instants}
 use Rattle.rules.specs.Length.{rootFrom, root, square, pairSquares, partTo, pairToLength}
 use Rattle.rules.specs.Circle.{radianParts, squareParts, stage, stages, rawSine, rawCosine, pairOfParts, pairToHalf}
 use Rattle.rules.specs.Circle.{exchangedPair, pairToQuarter, inQuarter, folded, pair}
-use Rattle.rules.specs.Polynomials.{step, polynomial}
+use Rattle.rules.specs.Polynomials.{timesTPlus, polynomial}
 use Rattle.rules.specs.Precession.{precession, obliquity}
 use Rattle.rules.specs.Arguments.{arguments}
 use Rattle.rules.specs.Nutation.{termAngle, longitudeProduct, obliquityProduct, total, nutationBy, nutation}
@@ -34,7 +34,7 @@ abbrev pub evening : Moment
 evening = record {
   date = record { year = + 2026; month = + 3; day = + 20 };
   time = record { hour = + 20; minute = + 0; second = + 0; ms = + 0 };
-  difference = + 0;
+  «ut1_minus_utc» = + 0;
 }
 
 abbrev pub here : Site
@@ -48,7 +48,7 @@ ttNow = record { 0 = + 827308869184 }
 
 pub evening-is : instants evening ≡ Instants.At utNow ttNow
 unfolding same between within leap months sum upFrom years daysBefore2000 dayCount dayNumber yearRefused monthDays
-    dayRefused taiMinusUtc beforeStep lastSecond timeRefused msOfDay utc utOf ttOf differenceRefused instants
+    dayRefused taiMinusUtc beforeStep lastSecond timeRefused msOfDay utc utOf ttOf ut1MinusUtcRefused instants
 evening-is = refl
 
 -- ---- the night
@@ -63,14 +63,14 @@ abbrev pub tonight : Night
 tonight = record {
   tt = ttNow;
   zeta = pairOf (+ 1073737212) (+ 3147410);
-  theta = pairOf (+ 1073738341) (− 2735131);
+  «minus_theta» = pairOf (+ 1073738341) (− 2735131);
   z = pairOf (+ 1073737211) (+ 3147693);
   aberration = direction (+ 423) (− 97890) (− 42433);
-  mean = pairOf (+ 985164275) (− 427051351);
-  longitude = pairOf (+ 1073741824) (+ 32125);
-  obliquity = pairOf (+ 985145387) (+ 427094921);
-  sidereal = pairOf (− 729340088) (− 788025725);
-  latitude = pairOf (+ 823590368) (− 688927000);
+  «minus_epsilon» = pairOf (+ 985164275) (− 427051351);
+  «delta_psi» = pairOf (+ 1073741824) (+ 32125);
+  «true_epsilon» = pairOf (+ 985145387) (+ 427094921);
+  «minus_sidereal» = pairOf (− 729340088) (− 788025725);
+  «latitude_less_quarter» = pairOf (+ 823590368) (− 688927000);
 }
 
 -- the night of a nutation and a longitude of the Sun, each worked out before
@@ -78,15 +78,15 @@ abbrev nightBy : Nutation → ℤ → Night
 nightBy n sun = record {
   tt = ttNow;
   zeta = pair (precession ttNow .zeta);
-  theta = pair (negℤ (precession ttNow .theta));
+  «minus_theta» = pair (negℤ (precession ttNow .theta));
   z = pair (precession ttNow .z);
   aberration = aberration (pair sun) (pair (obliquity ttNow));
-  mean = pair (negℤ (obliquity ttNow));
-  longitude = pair (n .longitude);
-  obliquity = pair (obliquity ttNow +ℤ n .obliquity);
-  sidereal = pair (remainder (negℤ
+  «minus_epsilon» = pair (negℤ (obliquity ttNow));
+  «delta_psi» = pair (n .longitude);
+  «true_epsilon» = pair (obliquity ttNow +ℤ n .obliquity);
+  «minus_sidereal» = pair (remainder (negℤ
       (sidereal utNow +ℤ rnd (n .longitude *ℤ pair (obliquity ttNow) .cosine) unit +ℤ here .longitude)));
-  latitude = pair (remainder (here .latitude -ℤ pos quarter));
+  «latitude_less_quarter» = pair (remainder (here .latitude -ℤ pos quarter));
 }
 
 in-parts : night utNow ttNow here ≡ nightBy (nutation ttNow) (sunLongitude ttNow)
@@ -100,7 +100,7 @@ nutationTonight = record { longitude = + 6171244; obliquity = + 9122441 }
 parts-are : (nutation ttNow ≡ nutationTonight) × ((sunLongitude ttNow ≡ + 34992817376817)
     × (nightBy nutationTonight (+ 34992817376817) ≡ tonight))
 unfolding rnd rndSize modulo remainder rootFrom root square pairSquares partTo pairToLength radianParts squareParts
-    stage stages rawSine rawCosine pairOfParts pairToHalf exchangedPair pairToQuarter inQuarter folded pair step
+    stage stages rawSine rawCosine pairOfParts pairToHalf exchangedPair pairToQuarter inQuarter folded pair timesTPlus
     polynomial precession obliquity arguments termAngle longitudeProduct obliquityProduct total nutationBy nutation
     meanLongitude centreProduct centreSum centre sunLongitude siderealPolynomial sidereal aberrationX aberrationY
     aberration

@@ -11,18 +11,18 @@ use lib.IntN.{ℤ, pos, negℤ, natAbs, _*ℤ_}
 use Rattle.integers.specs.Ring.{ring, Term, v0, v1, _⊕_, _⊖_, _⊗_, lit}
 use Rattle.integers.specs.Power.{power as powerOf}
 use Rattle.integers.specs.Polynomial.{plus, scale, times, valueAt}
-use Rattle.integers.specs.SeriesSteps.{Step, step, numerator, denominator, coefficients, scaleOf, degree, numerator-is}
-use Rattle.integers.specs.SeriesSteps.{denominator-is}
+use Rattle.integers.specs.SeriesStages.{Stage, stageOf, numerator, denominator, coefficients, scaleOf, degree, numerator-is}
+use Rattle.integers.specs.SeriesStages.{denominator-is}
 use Rattle.rules.specs.Series.{factorial, power, term, whole, sineSeries, cosineSeries}
-use Rattle.laws.specs.Chain.{circleSteps}
+use Rattle.laws.specs.RoundedStages.{stagesOfCircle}
 
 -- ---- in steps: the rows of the rule with the terms that the rule leaves out, through the 15th and the 14th power
 
-abbrev pub sineSteps : List Step
-sineSteps = circleSteps (210 ∷ 156 ∷ 110 ∷ 72 ∷ 42 ∷ 20 ∷ 6 ∷ [])
+abbrev pub sineSteps : List Stage
+sineSteps = stagesOfCircle (210 ∷ 156 ∷ 110 ∷ 72 ∷ 42 ∷ 20 ∷ 6 ∷ [])
 
-abbrev pub cosineSteps : List Step
-cosineSteps = circleSteps (182 ∷ 132 ∷ 90 ∷ 56 ∷ 30 ∷ 12 ∷ 2 ∷ [])
+abbrev pub cosineSteps : List Stage
+cosineSteps = stagesOfCircle (182 ∷ 132 ∷ 90 ∷ 56 ∷ 30 ∷ 12 ∷ 2 ∷ [])
 
 -- the definitions as terms for `ring`
 abbrev powerTerm : Term → ℕ → Term
@@ -40,13 +40,13 @@ abbrev pub cosineTerm : Term → Term → Term
 cosineTerm y d = termTerm y d 0 ⊖ termTerm y d 2 ⊕ termTerm y d 4 ⊖ termTerm y d 6
     ⊕ termTerm y d 8 ⊖ termTerm y d 10 ⊕ termTerm y d 12 ⊖ termTerm y d 14
 
-abbrev denominatorTerm : Term → List Step → Term → Term
+abbrev denominatorTerm : Term → List Stage → Term → Term
 denominatorTerm o [] d = d
-denominatorTerm o (step j k ∷ l) d = denominatorTerm o l (lit (pos j) ⊗ (lit (pos k) ⊗ (o ⊗ d)))
+denominatorTerm o (stageOf j k ∷ l) d = denominatorTerm o l (lit (pos j) ⊗ (lit (pos k) ⊗ (o ⊗ d)))
 
-abbrev numeratorTerm : Term → Term → List Step → Term → Term → Term
+abbrev numeratorTerm : Term → Term → List Stage → Term → Term → Term
 numeratorTerm z o [] n d = n
-numeratorTerm z o (step j k ∷ l) n d =
+numeratorTerm z o (stageOf j k ∷ l) n d =
     numeratorTerm z o l (lit (pos k) ⊗ (o ⊗ d) ⊖ lit (pos j) ⊗ (z ⊗ n)) (lit (pos j) ⊗ (lit (pos k) ⊗ (o ⊗ d)))
 
 pub sine-by-steps : (y : ℤ) (d : ℕ) → sineSeries y d ≡ y *ℤ numerator (y *ℤ y) (d * d) sineSteps (pos 1) 1
@@ -101,7 +101,7 @@ identity = pos 0 ∷ pos 1 ∷ []
 
 module _ (z : ℤ) (o : ℕ) (q : List ℤ) (m s : ℕ) (hq : length q ≤ suc m)
     (y : ℤ) (d : ℕ) (hy : y ≡ valueAt z o m q) (hd : d ≡ s * powerOf o m) where
-  pub composed : (l : List Step) (c : ℕ)
+  pub composed : (l : List Stage) (c : ℕ)
       → numerator y d l (pos 1) c ≡ valueAt z o (degree m l 0) (coefficients l q s (pos 1 ∷ []) c)
   unfolding valueAt powerOf
   composed l c = rw (hy, hd)
@@ -111,7 +111,7 @@ module _ (z : ℤ) (o : ℕ) (q : List ℤ) (m s : ℕ) (hq : length q ≤ suc m
       one : (c : ℕ) → c ≡ c * 1
       one c = omega arith
 
-  pub composed-denominator : (l : List Step) (c : ℕ) → denominator d l c ≡ scaleOf l s c * powerOf o (degree m l 0)
+  pub composed-denominator : (l : List Stage) (c : ℕ) → denominator d l c ≡ scaleOf l s c * powerOf o (degree m l 0)
   unfolding powerOf
   composed-denominator l c = rw hd
       (ap (λ x. denominator (s * powerOf o m) l x) (one c) ∙ denominator-is z o m s l 0 c)
@@ -129,11 +129,11 @@ identity-denominator : (o : ℕ) → o ≡ 1 * powerOf o 1
 unfolding powerOf
 identity-denominator o = omega arith
 
-pub plain : (z : ℤ) (o : ℕ) (l : List Step) (c : ℕ)
+pub plain : (z : ℤ) (o : ℕ) (l : List Stage) (c : ℕ)
     → numerator z o l (pos 1) c ≡ valueAt z o (degree 1 l 0) (coefficients l identity 1 (pos 1 ∷ []) c)
 plain z o l c = composed z o identity 1 1 (lit≤ tt) z o (identity-is z o) (identity-denominator o) l c
 
-pub plain-denominator : (o : ℕ) (l : List Step) (c : ℕ)
+pub plain-denominator : (o : ℕ) (l : List Stage) (c : ℕ)
     → denominator o l c ≡ scaleOf l 1 c * powerOf o (degree 1 l 0)
 plain-denominator o l c =
     composed-denominator (pos 0) o identity 1 1 (lit≤ tt) (pos 0) o (identity-is (pos 0) o) (identity-denominator o) l c

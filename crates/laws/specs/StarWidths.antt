@@ -10,7 +10,7 @@ use borrow.Author.Tests.{not-false}
 use Rattle.rules.specs.declared.Star.{Star}
 use Rattle.rules.specs.Units.{circle, quarter, between, within}
 use Rattle.rules.specs.Stars.{mostMotion, starRefused}
-use Rattle.rules.specs.StarList.{anyRefused}
+use Rattle.rules.specs.ListFile.{anyRefused}
 use Rattle.laws.specs.Records.{or-false}
 use Rattle.laws.specs.Units.{between-parts, within-le}
 use Rattle.laws.specs.Bytes.{OfWidth}

@@ -19,14 +19,14 @@ use Rattle.rules.specs.declared.Line.{Line}
 use Rattle.rules.specs.Units.{century}
 use Rattle.rules.specs.Refusals.{number}
 use Rattle.rules.specs.Calendar.{dayNumber, yearRefused, dayRefused, dayOf}
-use Rattle.rules.specs.Dates.{timeRefused, differenceRefused, utOf, ttOf, instants}
+use Rattle.rules.specs.Dates.{timeRefused, ut1MinusUtcRefused, utOf, ttOf, instants}
 use Rattle.rules.specs.Numerals.{space}
 use Rattle.rules.specs.Times.{decimal, refusedLine, threeNumbers, answerLine, printed}
 use Rattle.laws.specs.Ranges.{true-not-false}
 use Rattle.laws.specs.DayNumbers.{real-number-le}
 use Rattle.laws.specs.Instants.{instants-real, ut-within, tt-within}
 use Rattle.laws.specs.Decimal.{word-limit, length-decimal}
-use Rattle.laws.specs.Room.{sets-append}
+use Rattle.laws.specs.PuttingBytes.{sets-append}
 
 -- ---- `refused N`
 
@@ -67,7 +67,7 @@ answered : (a b c d : Bool) (n : ℤ) (u : Ut) (t : Tt) (r : Refusal)
     → cond a (Numbered.Refused Refusal.Year) (cond b (Numbered.Refused Refusal.Day) (Numbered.Day n))
     ≡ Numbered.Refused r
     → cond a (Instants.Refused Refusal.Year) (cond b (Instants.Refused Refusal.Day)
-    (cond c (Instants.Refused Refusal.Time) (cond d (Instants.Refused Refusal.Difference) (Instants.At u t))))
+    (cond c (Instants.Refused Refusal.Time) (cond d (Instants.Refused Refusal.Ut1MinusUtc) (Instants.At u t))))
     ≡ Instants.Refused r
 answered true b c d n u t r e = cc
 answered false true c d n u t r e = cc
@@ -78,7 +78,7 @@ pub instants-of-refused : (m : Moment) (r : Refusal) → dayOf (m .date) ≡ Num
 unfolding dayOf instants
 instants-of-refused m r e =
     answered (yearRefused (m .date)) (dayRefused (m .date)) (timeRefused (dayNumber (m .date)) (m .time))
-    (differenceRefused m)
+    (ut1MinusUtcRefused m)
     (dayNumber (m .date)) (utOf m) (ttOf m) r e
 
 -- ---- a room of 64 bytes is enough
@@ -88,7 +88,7 @@ unfolding number
 number-le Refusal.Year = lit≤ tt
 number-le Refusal.Day = lit≤ tt
 number-le Refusal.Time = lit≤ tt
-number-le Refusal.Difference = lit≤ tt
+number-le Refusal.Ut1MinusUtc = lit≤ tt
 number-le Refusal.Star = lit≤ tt
 number-le Refusal.Site = lit≤ tt
 number-le Refusal.Direction = lit≤ tt

@@ -1,22 +1,21 @@
 -- A turn about any axis. What is known of axis 3 and kept by the cyclic exchange is known of each axis: `by-axis`.
 -- So an accepted direction stays accepted, the length to be divided by is never nought, and refusal 13 never comes.
-use mathlib.Core.Path.{_≡_, refl, sym, ap, _∙_, subst}
-use mathlib.Core.Bool.{Bool, true, false, not, cond, _&&_}
+use mathlib.Core.Path.{_≡_, sym, ap, _∙_, subst}
+use mathlib.Core.Bool.{Bool, true, false, cond}
 use Prim.Native.Nat.{ℕ, _+_, _*_, _≤_, _<_, _^_}
 use native.Mathlib.Omega.{arith}
-use lib.Dec.{T, leb}
 use lib.IntN.{ℤ, negℤ}
-use borrow.Author.Tests.{le-leb, leb-true, ne-eqb}
+use borrow.Author.Tests.{ne-eqb}
 use Rattle.rules.specs.declared.Pair.{Pair}
 use Rattle.rules.specs.declared.Direction.{Direction}
 use Rattle.rules.specs.declared.Turned.{Turned}
 use Rattle.rules.specs.Units.{+_, same}
 use Rattle.rules.specs.Length.{square, squares, pairSquares, partTo, root, toLength, lengthRefused, broughtToLength}
-use Rattle.rules.specs.Turning.{Accepted, turn3, exchanged, turn1, turn2, turnAbout, turnBy, turn, directionRefused}
-use Rattle.rules.specs.Turning.{turnRefused, turned}
+use Rattle.rules.specs.Turning.{Accepted, turn3, exchanged, turn1, turn2, turnAbout, turnBy, turn, turnRefused, turned}
 use Rattle.rules.specs.Circle.{pair}
 use Rattle.laws.specs.Root.{root-le}
 use Rattle.laws.specs.Directions.{minus}
+use Rattle.laws.specs.Accepted.{accepted-not-refused}
 use Rattle.laws.specs.Angles.{pair-length, pair-opposite}
 use Rattle.laws.specs.Turn3.{shortTurn, longTurn, turn3-le, turn3-root-ge, turn3-accepted}
 use Rattle.laws.specs.Return3.{oppositePair, farthest, turn3-back}
@@ -137,40 +136,6 @@ module _ (axis : ℤ) (p : Pair) (v : Direction) (hp : Accepted (pairSquares p))
   pub turnBy-accepted : Accepted (squares (turnBy axis p v))
   unfolding turnBy
   turnBy-accepted = kept axis .accepted p v hp hv
-
--- ---- the test of refusal 7
-
-both-true : (a b : Bool) → not (a && b) ≡ false → (a ≡ true) × (b ≡ true)
-both-true true true e = (refl, refl)
-both-true true false e = absurd (subst T e tt)
-both-true false b e = absurd (subst T e tt)
-
-pub accepted-not-refused : (v : Direction) → Accepted (squares v) → directionRefused v ≡ false
-unfolding directionRefused
-accepted-not-refused v h =
-    rw (le-leb (2 ^ 60) (squares v + 2 ^ 32) (h .low), le-leb (squares v) (2 ^ 60 + 2 ^ 32) (h .high))
-
-pub accepted-of-not-refused : (v : Direction) → directionRefused v ≡ false → Accepted (squares v)
-unfolding directionRefused
-accepted-of-not-refused v e =
-    let h = both-true (leb (2 ^ 60) (squares v + 2 ^ 32)) (leb (squares v) (2 ^ 60 + 2 ^ 32)) e in
-    record {
-      low = leb-true (2 ^ 60) (squares v + 2 ^ 32) (h .0);
-      high = leb-true (squares v) (2 ^ 60 + 2 ^ 32) (h .1);
-    }
-
--- a test that says whether the squared length is accepted is the opposite of the refusal
-pub accepted-test : (v : Direction) (b : Bool) → (b ≡ true → Accepted (squares v)) → (Accepted (squares v) → b ≡ true)
-    → b ≡ not (directionRefused v)
-accepted-test v b f g = by b (directionRefused v) f g (accepted-of-not-refused v) (accepted-not-refused v)
-  where
-    by : (b r : Bool) → (b ≡ true → Accepted (squares v)) → (Accepted (squares v) → b ≡ true)
-        → (r ≡ false → Accepted (squares v)) → (Accepted (squares v) → r ≡ false)
-        → b ≡ not r
-    by true true f g h k = k (f refl)
-    by true false f g h k = refl
-    by false true f g h k = refl
-    by false false f g h k = g (h refl)
 
 -- ---- by the angle's own pair
 

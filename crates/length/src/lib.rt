@@ -19,7 +19,7 @@ const LEAST: i64 = 1152921500311879680;
 const MOST: i64 = 1152921508901814272;
 
 // The squares' sum.
-pub fn squares_sum(v: Direction) -> i64
+fn squares_sum(v: Direction) -> i64
     requires { ⌜ squares v < 2 ^ 63 ⌝ }
     ensures { λ r. ⌜ r ≡ pos (squares v) ⌝ }
 {
@@ -27,7 +27,7 @@ pub fn squares_sum(v: Direction) -> i64
 }
 
 // L: the whole root of the squares' sum.
-pub fn length_of(v: Direction) -> i64
+fn length_of(v: Direction) -> i64
     requires { ⌜ squares v < 2 ^ 63 ⌝ }
     ensures { λ r. ⌜ r ≡ pos (root (squares v)) ⌝ }
 {
@@ -35,7 +35,7 @@ pub fn length_of(v: Direction) -> i64
 }
 
 // Each part becomes Rnd(part * 2^30 / L).
-pub fn parts_to(v: Direction, l: i64) -> Direction
+fn parts_to(v: Direction, l: i64) -> Direction
     requires { ⌜ HasLength v l ⌝ }
     ensures { λ r. ⌜ r ≡ toLength v ⌝ }
 {
@@ -56,7 +56,7 @@ pub fn part_to(part: i64, l: i64) -> i64
 // Whether v is accepted: its squared length is within 2^32 of 2^60, both ends included.
 //
 // Given: v, any three numbers.
-// Rule: 01, "Numbers, angles, instants"; refusal 7.
+// Rule: docs/RULES.md, "Numbers, angles, instants"; refusal 7.
 //
 // The parts are tested first, so that no square passes the word.
 pub fn accepted(v: Direction) -> bool
@@ -78,7 +78,7 @@ pub fn accepted(v: Direction) -> bool
 //
 // Given: v, whose squares' sum is from 1 to 2^63 - 1.
 // Returned: Rnd(part * 2^30 / L) of each, L the whole root of the sum.
-// Rule: 01, "The three are then brought to length".
+// Rule: docs/RULES.md, "Turns, readings, place".
 pub fn brought(v: Direction) -> Direction
     requires { ⌜ NotNought v ⌝ }
     ensures { λ r. ⌜ r ≡ toLength v ⌝ }

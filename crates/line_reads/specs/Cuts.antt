@@ -7,7 +7,7 @@ use native.Mathlib.Omega.{arith}
 use lib.Dec.{eqb, ltb}
 use borrow.Author.Tests.{eqb-true, lt-ltb}
 use Rattle.rules.specs.Lines.{lineOf}
-use Rattle.rules.specs.Times.{printed, header, newline, linesOf, ended, times}
+use Rattle.rules.specs.Times.{printed, newline, linesOf, ended, times}
 use Rattle.line_reads.specs.declared.Start.{Start}
 use Rattle.line_reads.specs.Reads.{
   none,

@@ -7,7 +7,7 @@ use lib.ListN.{length, take, set, replicate}
 use Rattle.rules.specs.Lines.{lineOf}
 use Rattle.rules.specs.Times.{printed, header, newline, ended}
 use Rattle.line_reads.specs.declared.Start.{Start}
-use Rattle.line_reads.specs.declared.Step.{Step}
+use Rattle.line_reads.specs.declared.AfterRead.{AfterRead}
 
 -- ---- the start of a line
 
@@ -38,7 +38,7 @@ unfoldable pub answerAt : Start → ℕ → List ℕ
 answerAt s b = cond (eqb b newline) (answered s) []
 
 -- start and room after a byte; the next answer goes at a place
-abbrev pub byteStep : Start → ℕ → ℕ → Step
+abbrev pub byteStep : Start → ℕ → ℕ → AfterRead
 byteStep s b at = record { start = startAfter s b; written = at + length (answerAt s b) }
 
 -- ---- bytes, one after another
@@ -51,7 +51,7 @@ unfoldable pub answersTo : Start → List ℕ → List ℕ
 answersTo s [] = []
 answersTo s (b ∷ bytes) = answerAt s b ++ answersTo (startAfter s b) bytes
 
-abbrev pub bytesStep : Start → List ℕ → Step
+abbrev pub bytesStep : Start → List ℕ → AfterRead
 bytesStep s bytes = record { start = startAfterAll s bytes; written = length (answersTo s bytes) }
 
 -- ---- a read
@@ -60,7 +60,7 @@ bytesStep s bytes = record { start = startAfterAll s bytes; written = length (an
 unfoldable pub lastAnswer : Start → List ℕ
 lastAnswer s = cond (ltb 0 (s .len)) (answered s) []
 
-abbrev pub endStep : Start → Step
+abbrev pub endStep : Start → AfterRead
 endStep s = record { start = none; written = length (lastAnswer s) }
 
 -- an empty read is the end of the input
@@ -72,12 +72,12 @@ unfoldable pub startOfNext : Start → List ℕ → Start
 startOfNext s [] = none
 startOfNext s (b ∷ bytes) = startAfterAll s (b ∷ bytes)
 
-abbrev pub readStep : Start → List ℕ → Step
-readStep s bytes = record { start = startOfNext s bytes; written = length (answersOf s bytes) }
+abbrev pub afterRead : Start → List ℕ → AfterRead
+afterRead s bytes = record { start = startOfNext s bytes; written = length (answersOf s bytes) }
 
 -- before any read: the header
 abbrev pub headerLine : List ℕ
 headerLine = ended (header ∷ [])
 
-abbrev pub begun : Step
+abbrev pub begun : AfterRead
 begun = record { start = none; written = length headerLine }

@@ -6,7 +6,7 @@ use native.Mathlib.Numerals.{add-one}
 use native.Mathlib.Omega.{arith}
 use lib.ListN.{length, drop, getD, length-append}
 use lib.Seq.{sets, length-sets, drop-cons, drop-length}
-use Rattle.laws.specs.Room.{sets-append}
+use Rattle.laws.specs.PuttingBytes.{sets-append}
 use Rattle.line_reads.specs.declared.Start.{Start}
 use Rattle.line_reads.specs.Reads.{startAfter, answerAt, startAfterAll, answersTo, answersOf, startOfNext}
 use Rattle.line_reads.specs.Lengths.{answer-at-le}

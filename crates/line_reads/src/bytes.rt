@@ -1,7 +1,7 @@
 // The bytes of a read, one after another.
 
+use crate::AfterRead;
 use crate::Start;
-use crate::Step;
 use crate::starts::empty;
 use crate::starts::put_answer;
 use crate::starts::with_byte;
@@ -12,7 +12,7 @@ ghost use lib.Seq.{sets};
 ghost use Rattle.line_reads.specs.Reads as reads;
 
 // One byte more of the input; `at` is where the next answer goes.
-pub fn answer_byte(start: Start, b: u8, at: usize, out: &mut [u8]) -> Step
+fn answer_byte(start: Start, b: u8, at: usize, out: &mut [u8]) -> AfterRead
     requires { ⌜ at + 64 ≤ length (now out) ⌝ }
     ensures { λ r. ⌜ r ≡ reads.byteStep start b at ⌝ }
     ensures { λ _. ⌜ now (out .exit) ≡ sets (now (out .entry)) at (reads.answerAt start b) ⌝ }
@@ -20,20 +20,20 @@ pub fn answer_byte(start: Start, b: u8, at: usize, out: &mut [u8]) -> Step
     if b == b'\n' {
         let n = put_answer(start, &mut out[at..]);
         let none = empty();
-        return Step {
+        return AfterRead {
             start: none,
             written: at + n,
         };
     }
     let longer = with_byte(start, b);
-    Step {
+    AfterRead {
         start: longer,
         written: at,
     }
 }
 
 // All bytes of a read.
-pub fn answer_bytes(start: Start, input: &[u8], out: &mut [u8]) -> Step
+pub fn answer_bytes(start: Start, input: &[u8], out: &mut [u8]) -> AfterRead
     requires { ⌜ 64 * length (now input) ≤ length (now out) ⌝ }
     ensures { λ r. ⌜ r ≡ reads.bytesStep start (now (input .entry)) ⌝ }
     ensures { λ _. ⌜ now (out .exit)
@@ -43,12 +43,12 @@ pub fn answer_bytes(start: Start, input: &[u8], out: &mut [u8]) -> Step
     let mut at: usize = 0;
     let mut i: usize = 0;
     while i < input.len() {
-        let step = answer_byte(line, input[i], at, out);
-        line = step.start;
-        at = step.written;
+        let after = answer_byte(line, input[i], at, out);
+        line = after.start;
+        at = after.written;
         i += 1;
     }
-    Step {
+    AfterRead {
         start: line,
         written: at,
     }

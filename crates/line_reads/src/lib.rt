@@ -24,7 +24,7 @@ pub struct Start {
 
 // What a read leaves: the start of the line that it breaks off in, and how many bytes of answers
 // stand at the front of the room.
-pub struct Step {
+pub struct AfterRead {
     pub start: Start,
     pub written: usize,
 }
@@ -53,18 +53,18 @@ fn put_header(out: &mut [u8]) -> usize
 // Given: room for it.
 // Returned: a start with no byte, and the length of the header with its end, which stands at the
 // front of the room; the rest of the room stays.
-// Rule: 01, "Dates".
-pub fn begin(out: &mut [u8; 65536]) -> Step
+// Rule: docs/RULES.md, "Dates".
+pub fn begin(out: &mut [u8; 65536]) -> AfterRead
     ensures answer { λ r. ⌜ r ≡ reads.begun ⌝ }
     ensures kept { λ _. ⌜ now (out .exit) ≡ overlaid reads.headerLine (now (out .entry)) ⌝ }
 {
     let n = put_header(out);
     let start = empty();
-    Step { start, written: n }
+    AfterRead { start, written: n }
 }
 
 // At the end of the input: the last line, if it has begun.
-fn answer_end(start: Start, out: &mut [u8]) -> Step
+fn answer_end(start: Start, out: &mut [u8]) -> AfterRead
     requires { ⌜ 64 ≤ length (now out) ⌝ }
     ensures { λ r. ⌜ r ≡ reads.endStep start ⌝ }
     ensures { λ _. ⌜ now (out .exit) ≡ sets (now (out .entry)) 0 (reads.lastAnswer start) ⌝ }
@@ -73,12 +73,12 @@ fn answer_end(start: Start, out: &mut [u8]) -> Step
     let none = empty();
     if 0 < len {
         let n = put_answer(start, out);
-        return Step {
+        return AfterRead {
             start: none,
             written: n,
         };
     }
-    Step {
+    AfterRead {
         start: none,
         written: 0,
     }
@@ -92,9 +92,14 @@ fn answer_end(start: Start, out: &mut [u8]) -> Step
 // Returned: the start of the line that the read breaks off in, and the length of the answers of
 // the lines that end in it, which stand at the front of the room; the rest of the room stays. At
 // the end of the input the last line is answered too, if it has begun.
-// Rule: 01, "Dates".
-pub fn answer_read(start: Start, input: &[u8; 1024], count: usize, out: &mut [u8; 65536]) -> Step
-    ensures answer { λ r. ⌜ r ≡ reads.readStep start (take count (now (input .entry))) ⌝ }
+// Rule: docs/RULES.md, "Dates".
+pub fn answer_read(
+    start: Start,
+    input: &[u8; 1024],
+    count: usize,
+    out: &mut [u8; 65536],
+) -> AfterRead
+    ensures answer { λ r. ⌜ r ≡ reads.afterRead start (take count (now (input .entry))) ⌝ }
     ensures kept { λ _. ⌜ now (out .exit)
         ≡ overlaid (reads.answersOf start (take count (now (input .entry)))) (now (out .entry)) ⌝ }
 {

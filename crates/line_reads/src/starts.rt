@@ -45,7 +45,7 @@ pub fn put_answer(start: Start, out: &mut [u8]) -> usize
 {
     let bytes = start.bytes;
     let len = at_most(start.len, 32);
-    let n = lines::print_into(&bytes[..len], out);
+    let n = line_times::print_line(&bytes[..len], out);
     out[n] = b'\n';
     n + 1
 }

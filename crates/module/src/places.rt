@@ -20,7 +20,7 @@ ghost use Rattle.answers.specs.Answers.{placedOut};
 // right ascension and declination of J2000 in µas, their motions in µas a year: any numbers.
 // Returned: apparent right ascension and declination, azimuth (north through east) and altitude in
 // µas; or refusal 1 to 6.
-// Rule: 01, "Turns, readings, place".
+// Rule: docs/RULES.md, "Turns, readings, place".
 #[no_mangle]
 pub extern "C" fn turbelicus_place(
     year: i32,
@@ -30,7 +30,7 @@ pub extern "C" fn turbelicus_place(
     minute: i32,
     second: i32,
     ms: i32,
-    difference: i32,
+    ut1_minus_utc: i32,
     latitude: i64,
     longitude: i64,
     ra: i64,
@@ -39,7 +39,7 @@ pub extern "C" fn turbelicus_place(
     declination_motion: i32,
 ) -> TurbelicusPlaced
     ensures { λ r. ⌜ r ≡ placedOut (placedAnswer (rule.place
-        (momentOf year month day hour minute second ms difference)
+        (momentOf year month day hour minute second ms «ut1_minus_utc»)
         (starOf ra declination «ra_motion» «declination_motion»)
         (siteOf latitude longitude))) ⌝ }
 {
@@ -51,7 +51,7 @@ pub extern "C" fn turbelicus_place(
             second,
             ms,
         },
-        difference,
+        ut1_minus_utc,
     };
     let star = Star {
         ra,

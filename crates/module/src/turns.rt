@@ -14,7 +14,7 @@ ghost use Rattle.answers.specs.Answers.{turnedOut};
 //
 // Given: x, y, z in parts of 2^30; axis, 1 to 3; angle in µas: any numbers.
 // Returned: the direction in parts of 2^30; or refusal 7 or 8.
-// Rule: 01, "Turns, readings, place".
+// Rule: docs/RULES.md, "Turns, readings, place".
 #[no_mangle]
 pub extern "C" fn turbelicus_turn(x: i64, y: i64, z: i64, axis: i64, angle: i64) -> TurbelicusTurned
     ensures { λ r. ⌜ r ≡ turnedOut (turnedAnswer (rule.turned axis angle (directionOf x y z))) ⌝ }
@@ -26,7 +26,7 @@ pub extern "C" fn turbelicus_turn(x: i64, y: i64, z: i64, axis: i64, angle: i64)
 //
 // Given: any two numbers.
 // Returned: µas from h towards v, 0 to C - 1; 0 for (0, 0).
-// Rule: 01, "Turns, readings, place".
+// Rule: docs/RULES.md, "Turns, readings, place".
 #[no_mangle]
 pub extern "C" fn turbelicus_reading(h: i32, v: i32) -> i64
     ensures { λ r. ⌜ r ≡ reading h v ⌝ }

@@ -1,9 +1,9 @@
 // All of a place that date and site alone decide.
 
-use night_parts::aberration;
-use night_parts::latitude_pair;
-use night_parts::opposite_of;
-use night_parts::sidereal_pair;
+use night_pairs::aberration;
+use night_pairs::latitude_pair;
+use night_pairs::opposite_of;
+use night_pairs::sidereal_pair;
 use rules::Instants;
 use rules::Moment;
 use rules::Night;
@@ -12,8 +12,6 @@ use rules::Refusal;
 use rules::Site;
 use rules::Tt;
 use rules::Ut;
-use units::HALF;
-use units::QUARTER;
 ghost use mathlib.Core.Path.{_≡_};
 ghost use Rattle.rules.specs.declared.Instants.{Instants};
 ghost use Rattle.rules.specs.Night as rule;
@@ -24,7 +22,7 @@ ghost use Rattle.night.specs.Given.{SiteFits};
 //
 // Given: moment (UTC, UT1-UTC in ms), site: any.
 // Returned: the night; refusals 1 to 4, 6.
-// Rule: 01, "Turns, readings, place", steps 3 to 6.
+// Rule: docs/RULES.md, "Turns, readings, place", steps 3 to 6.
 pub fn night_of(moment: Moment, site: Site) -> Prepared
     ensures { λ r. ⌜ r ≡ rule.nightOf moment site ⌝ }
 {
@@ -41,27 +39,17 @@ fn prepared(ut: Ut, tt: Tt, site: Site) -> Prepared
     requires { ⌜ InRange (tt .0) ⌝ }
     ensures { λ r. ⌜ r ≡ rule.nightAt (Instants.At ut tt) site ⌝ }
 {
-    if site_refused(site) {
+    if stars::site_refused(site) {
         return Prepared::Refused(Refusal::Site);
     }
     Prepared::For(night_at(ut, tt, site))
-}
-
-// Refusal 6: the ranges of a site.
-pub fn site_refused(site: Site) -> bool
-    ensures { λ r. ⌜ r ≡ rule.siteRefused site ⌝ }
-{
-    if !whole::is_between(-QUARTER, QUARTER, site.latitude) {
-        return true;
-    }
-    !whole::is_between(-HALF, HALF, site.longitude)
 }
 
 // The night of a date and a site that are not refused.
 //
 // Given: ut and tt of one date; site, not refused.
 // Returned: the pairs of the turns of steps 3, 5 and 6, and what step 4 adds.
-// Rule: 01, "Turns, readings, place", steps 3 to 6.
+// Rule: docs/RULES.md, "Turns, readings, place", steps 3 to 6.
 pub fn night_at(ut: Ut, tt: Tt, site: Site) -> Night
     requires { ⌜ SiteFits ut tt site ⌝ }
     ensures { λ r. ⌜ r ≡ rule.night ut tt site ⌝ }
@@ -73,13 +61,13 @@ pub fn night_at(ut: Ut, tt: Tt, site: Site) -> Night
     Night {
         tt,
         zeta: circle::pair(p.zeta),
-        theta: opposite_of(circle::pair(p.theta)),
+        minus_theta: opposite_of(circle::pair(p.theta)),
         z: circle::pair(p.z),
         aberration: aberration(circle::pair(sun::sun_longitude_of(tt)), mean),
-        mean: opposite_of(mean),
-        longitude: circle::pair(n.longitude),
-        obliquity: circle::pair(epsilon + n.obliquity),
-        sidereal: sidereal_pair(ut, n.longitude, mean.cosine, site.longitude),
-        latitude: latitude_pair(site.latitude),
+        minus_epsilon: opposite_of(mean),
+        delta_psi: circle::pair(n.longitude),
+        true_epsilon: circle::pair(epsilon + n.obliquity),
+        minus_sidereal: sidereal_pair(ut, n.longitude, mean.cosine, site.longitude),
+        latitude_less_quarter: latitude_pair(site.latitude),
     }
 }

@@ -1,20 +1,14 @@
--- What the walk of `night_list` needs of lists: the element after ps replaced, and how many of a list are marked 0.
-use mathlib.Core.Path.{_≡_, refl, ap}
+-- What the walk of `night_list` needs of lists: how many are worked, and how many of a list are marked 0.
+use mathlib.Core.Path.{_≡_, refl, sym, ap}
 use mathlib.Core.Bool.{Bool, true, false, cond}
 use mathlib.Core.List.{List, [], _∷_, _++_, map}
-use Prim.Native.Nat.{ℕ, _+_, _<_, _≤_}
+use Prim.Native.Nat.{ℕ, _+_, _<_, _≤_, _^_}
 use native.Mathlib.Omega.{arith}
 use lib.ListN.{length, take, drop, length-append, length-map, length-drop}
 use lib.Seq.{length-take-le}
 use lib.Dec.{eqb}
 use Rattle.rules.specs.declared.Entry.{Entry}
 use Rattle.rules.specs.NightList.{marked}
-
-pub mid-within : {X : Type 0} (z : X) (zs ps : List X) → length ps < length (ps ++ (z ∷ zs))
-mid-within z zs ps = simp length-append (omega arith)
-
-pub snoc-length : {X : Type 0} (ps : List X) (y : X) → length ps + 1 ≡ length (ps ++ (y ∷ []))
-snoc-length ps y = simp length-append (omega arith)
 
 -- ps and the rest of a mapped list are as many as the list
 pub as-many : {X Y : Type 0} (f : X → Y) (ps : List Y) (zs xs : List X) → ps ++ map f zs ≡ map f xs
@@ -46,3 +40,10 @@ pub marked-more : (ps : List Entry) (y : Entry) → marked ps + markedOne y ≡ 
 unfolding marked
 marked-more [] y = omega arith
 marked-more (p ∷ ps) y = omega (arith, marked-more ps y)
+
+-- one more is counted, and the tally fits its word
+pub tally-fits : (ps : List Entry) (y : Entry) → marked ps < 2 ^ 62 → marked (ps ++ (y ∷ [])) < 2 ^ 64
+tally-fits ps y small = omega (arith, sym (marked-more ps y), one-le (eqb (y .mark) 0))
+
+pub none-fits : marked [] < 2 ^ 64
+none-fits = omega (arith, marked-none)

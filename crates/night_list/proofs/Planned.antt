@@ -16,15 +16,16 @@ use Rattle.rules.specs.declared.Prepared.{Prepared}
 use Rattle.rules.specs.declared.Listed.{Listed}
 use Rattle.rules.specs.Night.{nightOf}
 use Rattle.rules.specs.NightList.{worked, marked, listRefused, listedIn, nightList, workedIn, entriesAfterNight}
-use Rattle.night_plan.specs.declared.Plan.{Plan}
-use Rattle.night_plan.specs.Plans.{todoOf, planOf, workedBy, answered, answerOf, PreparedFits}
+use Rattle.rules.specs.ListFile.{mostRecords}
+use Rattle.night_list_checks.specs.declared.NightPlan.{NightPlan}
+use Rattle.night_list_checks.specs.Plans.{todoOf, planOf, entryAfter, answered, answerOf, PreparedFits}
 
 -- the entries that are worked
 abbrev pub workedAll : Prepared → ℕ → List Entry → List Entry
-workedAll night todo xs = map (workedBy night) (take todo xs)
+workedAll night todo xs = map (entryAfter night) (take todo xs)
 
-all-worked : (n : Night) (xs : List Entry) → map (workedBy (Prepared.For n)) xs ≡ map (worked n) xs
-unfolding workedBy
+all-worked : (n : Night) (xs : List Entry) → map (entryAfter (Prepared.For n)) xs ≡ map (worked n) xs
+unfolding entryAfter
 all-worked n [] = refl
 all-worked n (x ∷ xs) = ap (λ r. worked n x ∷ r) (all-worked n xs)
 
@@ -34,9 +35,9 @@ record Done (night : Prepared) (xs : List Entry) (todo : ℕ) : Type 0 where
   answer : answered night (length xs) (marked (workedAll night todo xs)) ≡ listedIn night xs
 
 whole-list : (n : Night) (xs : List Entry) → workedAll (Prepared.For n) (length xs) xs ≡ map (worked n) xs
-whole-list n xs = ap (map (workedBy (Prepared.For n))) (take-length xs) ∙ all-worked n xs
+whole-list n xs = ap (map (entryAfter (Prepared.For n))) (take-length xs) ∙ all-worked n xs
 
-by-count : (n : Night) (xs : List Entry) (t : Bool) → ltb 64 (length xs) ≡ t
+by-count : (n : Night) (xs : List Entry) (t : Bool) → ltb mostRecords (length xs) ≡ t
     → Done (Prepared.For n) xs (cond t 0 (length xs))
 unfolding answered workedIn listedIn listRefused
 by-count n xs true e = record { within = omega arith; after = rw e; answer = rw e }
@@ -49,21 +50,21 @@ by-count n xs false e = record {
 by-night : (night : Prepared) (xs : List Entry) → Done night xs (todoOf night (length xs))
 unfolding todoOf answered workedIn listedIn
 by-night (Prepared.Refused r) xs = record { within = omega arith; after = refl; answer = refl }
-by-night (Prepared.For n) xs = by-count n xs (ltb 64 (length xs)) refl
+by-night (Prepared.For n) xs = by-count n xs (ltb mostRecords (length xs)) refl
 
-module _ (m : Moment) (site : Site) (xs : List Entry) (plan : Plan)
+module _ (m : Moment) (site : Site) (xs : List Entry) (plan : NightPlan)
     (planned : plan ≡ planOf (nightOf m site) (length xs)) where
   all : Done (plan .night) xs (plan .todo)
   unfolding planOf
-  all = subst (λ (p : Plan). Done (p .night) xs (p .todo)) (sym planned) (by-night (nightOf m site) xs)
+  all = subst (λ (p : NightPlan). Done (p .night) xs (p .todo)) (sym planned) (by-night (nightOf m site) xs)
 
   night-is : plan .night ≡ nightOf m site
   unfolding planOf
-  night-is = ap (λ (p : Plan). p .night) planned
+  night-is = ap (λ (p : NightPlan). p .night) planned
 
   count-is : plan .count ≡ length xs
   unfolding planOf
-  count-is = ap (λ (p : Plan). p .count) planned
+  count-is = ap (λ (p : NightPlan). p .count) planned
 
   -- no more entries than there are
   pub night-within : plan .todo ≤ length xs

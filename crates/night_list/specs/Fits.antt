@@ -12,7 +12,7 @@ use Rattle.rules.specs.Dates.{instants}
 use Rattle.rules.specs.Night.{siteRefused, night, nightAt, nightOf}
 use Rattle.laws.specs.Instants.{tt-within}
 use Rattle.laws.specs.Night.{night-fits}
-use Rattle.night_plan.specs.Plans.{PreparedFits}
+use Rattle.night_list_checks.specs.Plans.{PreparedFits}
 
 by-site : (m : Moment) (ut : Ut) (tt : Tt) (site : Site) (t : Bool) → instants m ≡ Instants.At ut tt
     → PreparedFits (cond t (Prepared.Refused Refusal.Site) (Prepared.For (night ut tt site)))

@@ -1,9 +1,9 @@
 // The night list: entries worked where they stand.
 
-use night_plan::answer;
-use night_plan::plan_of;
-use night_plan::tally;
-use night_plan::worked;
+use night_list_checks::answer;
+use night_list_checks::entry_after;
+use night_list_checks::plan_of;
+use night_list_checks::tally;
 use rules::Entry;
 use rules::Listed;
 use rules::Moment;
@@ -17,7 +17,7 @@ ghost use Rattle.rules.specs.NightList.{nightList, entriesAfterNight};
 // Returned: how many entries are marked 0. Each entry keeps its star and has mark 0 and its place,
 // or mark 5 and four noughts where its star is refused. Or refusal 1 to 4, 6 or 11, and all entries
 // stay.
-// Rule: 01, "Lists".
+// Rule: docs/RULES.md, "Lists".
 //
 // The night is worked once. A refusal is a plan with nothing to do, so no test stands beside the
 // loop's own.
@@ -30,7 +30,7 @@ pub fn night_list(moment: Moment, site: Site, entries: &mut [Entry]) -> Listed
     let mut n: i64 = 0;
     let mut i: usize = 0;
     while i < todo {
-        let entry = worked(plan, entries[i]);
+        let entry = entry_after(plan, entries[i]);
         entries[i] = entry;
         n = tally(n, entry);
         i += 1;

@@ -8,14 +8,16 @@ ghost use lib.ListN.{length};
 ghost use Rattle.rules.specs.Numerals as rule;
 ghost use Rattle.laws.specs.Lines as law;
 
-pub fn is_digit(b: u8) -> bool
+pub mod fields;
+
+fn is_digit(b: u8) -> bool
     ensures { λ r. ⌜ r ≡ rule.isDigit b ⌝ }
 {
     48 <= b && b <= 57
 }
 
 // Whether the bytes are 1 to `most` digits.
-pub fn of_digits(s: &[u8], most: usize) -> bool
+fn of_digits(s: &[u8], most: usize) -> bool
     ensures { λ r. ⌜ r ≡ rule.ofDigits most (now (s .entry)) ⌝ }
 {
     if s.len() < 1 {
@@ -35,7 +37,7 @@ pub fn of_digits(s: &[u8], most: usize) -> bool
 }
 
 // Whether the bytes begin with a minus.
-pub fn negative(s: &[u8]) -> bool
+fn negative(s: &[u8]) -> bool
     ensures { λ r. ⌜ r ≡ rule.negative (now (s .entry)) ⌝ }
 {
     if s.len() < 1 {
@@ -55,14 +57,14 @@ pub fn of_number(s: &[u8], most: usize) -> bool
 }
 
 // The value of a digit; 0 for what comes before the digits.
-pub fn value(b: u8) -> i64
+fn value(b: u8) -> i64
     ensures { λ r. ⌜ r ≡ pos (b - 48) ⌝ }
 {
     if b < 48 { 0 } else { b as i64 - 48 }
 }
 
 // The number that a row of digits spells.
-pub fn spelled(s: &[u8]) -> i64
+fn spelled(s: &[u8]) -> i64
     requires { ⌜ length (now s) ≤ 12 ⌝ }
     ensures { λ r. ⌜ (r ≡ pos (rule.spelled 0 (now (s .entry))))
         × (natAbs r ≤ law.most (length (now (s .entry)))) ⌝ }

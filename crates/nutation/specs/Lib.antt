@@ -1,2 +1,4 @@
 -- What the clauses of `nutation` cite.
+pub mod Terms
+pub mod TermFits
 pub mod Products

@@ -1,10 +1,11 @@
 // Nutation by its ten largest terms, of TT.
 
+use crate::terms::TERM_COUNT;
+use crate::terms::term_at;
 use arguments::arguments_of;
 use circle::pair;
-use nutation_terms::term_at;
+use polynomials::instant_refused;
 use polynomials::linear;
-use polynomials::refused_instant;
 use rounding::rnd_quotient;
 use rules::Arguments;
 use rules::Nutated;
@@ -18,13 +19,16 @@ ghost use Rattle.rules.specs.Arguments as rule;
 ghost use Rattle.rules.specs.Nutation.{termAngle, nutation, nutationAt};
 ghost use Rattle.laws.specs.Instant.{InRange};
 ghost use Rattle.nutation.specs.Products.{productsOf};
-ghost use Rattle.nutation_terms.specs.TermFits.{ArgumentsFit, TermFits};
+ghost use Rattle.nutation.specs.TermFits.{ArgumentsFit, TermFits};
+
+mod terms;
 
 // Nutation in longitude and in obliquity.
 //
 // Given: t, TT, from -Q to Q.
 // Returned: Δψ and Δε in µas.
-// Rule: 01, "Polynomials in time", the table (IAU 1980). Each sum is rounded once, at the end.
+// Rule: docs/RULES.md, "Polynomials in time", the table (IAU 1980). Each sum is rounded once, at
+// the end.
 pub fn nutation_of(t: Tt) -> Nutation
     requires { ⌜ InRange (t .0) ⌝ }
     ensures { λ r. ⌜ r ≡ nutation t ⌝ }
@@ -33,7 +37,7 @@ pub fn nutation_of(t: Tt) -> Nutation
     let mut longitude: i64 = 0;
     let mut obliquity: i64 = 0;
     let mut k = 0;
-    while k < 10 {
+    while k < TERM_COUNT {
         let p = products(t, a, term_at(k));
         longitude += p.longitude;
         obliquity += p.obliquity;
@@ -49,11 +53,11 @@ pub fn nutation_of(t: Tt) -> Nutation
 //
 // Given: t, TT, any.
 // Returned: Δψ and Δε in µas, or refusal 12.
-// Rule: 01, "Polynomials in time", the table (IAU 1980).
+// Rule: docs/RULES.md, "Polynomials in time", the table (IAU 1980).
 pub fn nutation(t: Tt) -> Nutated
     ensures { λ r. ⌜ r ≡ nutationAt t ⌝ }
 {
-    if refused_instant(t.0) {
+    if instant_refused(t.0) {
         return Nutated::Refused(Refusal::Instant);
     }
     Nutated::By(nutation_of(t))

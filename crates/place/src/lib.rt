@@ -1,4 +1,4 @@
-// The place of a star, document 01, "Turns, readings, place": the six steps with their refusals.
+// The place of a star, docs/RULES.md, "Turns, readings, place": the six steps with their refusals.
 
 use rules::Instants;
 use rules::Moment;
@@ -16,14 +16,12 @@ ghost use Rattle.laws.specs.Instant.{InRange};
 ghost use Rattle.rules.specs.declared.Instants.{Instants};
 ghost use Rattle.steps.specs.Given.{StarFits};
 
-mod readings;
-
 // The place of a star at a moment and a site.
 //
 // Given: moment (UTC, UT1-UTC in ms), star, site: any.
 // Returned: apparent right ascension and declination, azimuth and altitude in µas; refusals 1 to 4,
 // 5, 6.
-// Rule: 01, "Turns, readings, place", steps 1 to 6.
+// Rule: docs/RULES.md, "Turns, readings, place", steps 1 to 6.
 pub fn place(moment: Moment, star: Star, site: Site) -> Placed
     ensures { λ r. ⌜ r ≡ rule.place moment star site ⌝ }
 {
@@ -38,13 +36,13 @@ pub fn place(moment: Moment, star: Star, site: Site) -> Placed
 //
 // Given: n, as `night_of` gives it; s, not refused.
 // Returned: apparent right ascension and declination, azimuth and altitude in µas.
-// Rule: 01, "Turns, readings, place", steps 1 to 6.
+// Rule: docs/RULES.md, "Turns, readings, place", steps 1 to 6.
 pub fn place_in(n: Night, s: Star) -> Place
     requires { ⌜ StarFits n s ⌝ }
     ensures { λ r. ⌜ r ≡ rule.placeIn n s ⌝ }
 {
     let v = steps::apparent(n, s);
-    readings::readings(v, night_turns::overhead(n, v))
+    steps::readings(v, steps::overhead(n, v))
 }
 
 // The place at instants of a date: 5, then 6.
@@ -56,7 +54,7 @@ fn placed(ut: Ut, tt: Tt, star: Star, site: Site) -> Placed
     if stars::star_refused(star) {
         return Placed::Refused(Refusal::Star);
     }
-    if night::site_refused(site) {
+    if stars::site_refused(site) {
         return Placed::Refused(Refusal::Site);
     }
     Placed::At(place_in(night::night_at(ut, tt, site), star))

@@ -3,14 +3,17 @@
 //   places FILE [sexagesimal]
 //
 // Standard input: one line, `YYYY-MM-DD hh:mm:ss.mmm d latitude longitude`, angles in µas.
-// Standard output: a header and a line for each entry, or `refused N`. `place_lines::print_answer`
+// Standard output: a header and a line for each entry, or `refused N`. `line_places::print_answer`
 // works it out whole, and it is written at once. What went wrong with the arguments, with reading
 // or with writing is a line on standard error; of the first two, standard output then has nothing.
 
 use input::read_file;
 use input::read_line;
-use place_lines::command::is_command;
-use place_lines::print_answer;
+use line_places::ANSWER_ROOM;
+use line_places::FILE_KEPT;
+use line_places::LINE_KEPT;
+use line_places::command::is_command;
+use line_places::print_answer;
 
 // A message that a file could not be opened or read, by its name.
 fn fail(path: &[u8]) {
@@ -18,16 +21,15 @@ fn fail(path: &[u8]) {
     os::fail(path);
 }
 
-// Answers standard input by an open file; path is its name, for a message. Of the file 1,544 bytes
-// are enough, of the line 65 (place_lines/specs/Cuts.antt).
+// Answers standard input by an open file; path is its name, for a message.
 fn answer(fd: i32, path: &[u8], people: bool) {
-    let mut file = [0u8; 1544];
+    let mut file = [0u8; FILE_KEPT];
     let contents = read_file(fd, &mut file);
     if !contents.is_read {
         fail(path);
         return;
     }
-    let mut input = [0u8; 65];
+    let mut input = [0u8; LINE_KEPT];
     let line = read_line(0, &mut input);
     if !line.is_read {
         os::fail(b"places: standard input");
@@ -35,7 +37,7 @@ fn answer(fd: i32, path: &[u8], people: bool) {
     }
     let length = contents.length;
     let end = line.length;
-    let mut out = [0u8; 8448];
+    let mut out = [0u8; ANSWER_ROOM];
     let n = print_answer(&file[..length], &input[..end], people, &mut out);
     if !io::write_all(1, &out[..n]) {
         os::fail(b"places: standard output");

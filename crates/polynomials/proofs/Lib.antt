@@ -1,2 +1,3 @@
 -- What the proofs share, of every function of an instant.
 pub mod Held
+pub mod Tested

@@ -6,13 +6,13 @@ use rounding::rnd_quotient;
 use units::CENTURY;
 ghost use mathlib.Core.Path.{_≡_};
 ghost use mathlib.Core.List.{[], _∷_};
-ghost use Rattle.rules.specs.Polynomials.{instantRefused, step, polynomial};
+ghost use Rattle.rules.specs.Polynomials.{instantRefused, timesTPlus, polynomial};
 ghost use Rattle.polynomials.specs.Fits.{StepFits, PolynomialFits};
 
-// One step where t * p may pass the word: times t, Rnd by Q, the next coefficient.
-fn step(t: i64, p: i64, next: i64) -> i64
+// One timesTPlus where t * p may pass the word: times t, Rnd by Q, the next coefficient.
+fn times_t_plus(t: i64, p: i64, next: i64) -> i64
     requires { ⌜ StepFits t p next ⌝ }
-    ensures { λ r. ⌜ r ≡ step t p next ⌝ }
+    ensures { λ r. ⌜ r ≡ timesTPlus t p next ⌝ }
 {
     rnd_product_quotient(t, p, CENTURY) + next
 }
@@ -31,7 +31,7 @@ pub fn quadratic(t: i64, c0: i64, c1: i64, c2: i64) -> i64
     requires { ⌜ PolynomialFits t (c0 ∷ c1 ∷ c2 ∷ []) ⌝ }
     ensures { λ r. ⌜ r ≡ polynomial (c0 ∷ c1 ∷ c2 ∷ []) t ⌝ }
 {
-    step(t, linear(t, c1, c2), c0)
+    times_t_plus(t, linear(t, c1, c2), c0)
 }
 
 // A polynomial of four coefficients.
@@ -39,11 +39,11 @@ pub fn cubic(t: i64, c0: i64, c1: i64, c2: i64, c3: i64) -> i64
     requires { ⌜ PolynomialFits t (c0 ∷ c1 ∷ c2 ∷ c3 ∷ []) ⌝ }
     ensures { λ r. ⌜ r ≡ polynomial (c0 ∷ c1 ∷ c2 ∷ c3 ∷ []) t ⌝ }
 {
-    step(t, quadratic(t, c1, c2, c3), c0)
+    times_t_plus(t, quadratic(t, c1, c2, c3), c0)
 }
 
 // Refusal 12: whether the instant t is outside -Q to Q.
-pub fn refused_instant(t: i64) -> bool
+pub fn instant_refused(t: i64) -> bool
     ensures { λ r. ⌜ r ≡ instantRefused t ⌝ }
 {
     !whole::is_between(-CENTURY, CENTURY, t)

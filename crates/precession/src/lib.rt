@@ -1,7 +1,7 @@
 // Precession from J2000 and the mean obliquity, of TT.
 
 use polynomials::cubic;
-use polynomials::refused_instant;
+use polynomials::instant_refused;
 use rules::Angle;
 use rules::Precessed;
 use rules::Precession;
@@ -15,7 +15,7 @@ ghost use Rattle.laws.specs.Instant.{InRange};
 //
 // Given: t, TT, from -Q to Q.
 // Returned: ζ, z, θ in µas.
-// Rule: 01, "Polynomials in time" (Lieske 1977).
+// Rule: docs/RULES.md, "Polynomials in time" (Lieske 1977; source 000 misprints 0.041883 in θ).
 pub fn precession_of(t: Tt) -> Precession
     requires { ⌜ InRange (t .0) ⌝ }
     ensures { λ r. ⌜ r ≡ precession t ⌝ }
@@ -31,11 +31,11 @@ pub fn precession_of(t: Tt) -> Precession
 //
 // Given: t, TT, any.
 // Returned: ζ, z, θ in µas, or refusal 12.
-// Rule: 01, "Polynomials in time" (Lieske 1977).
+// Rule: docs/RULES.md, "Polynomials in time" (Lieske 1977).
 pub fn precession(t: Tt) -> Precessed
     ensures { λ r. ⌜ r ≡ precessionAt t ⌝ }
 {
-    if refused_instant(t.0) {
+    if instant_refused(t.0) {
         return Precessed::Refused(Refusal::Instant);
     }
     Precessed::By(precession_of(t))
@@ -45,7 +45,7 @@ pub fn precession(t: Tt) -> Precessed
 //
 // Given: t, TT, from -Q to Q.
 // Returned: ε in µas.
-// Rule: 01, "Polynomials in time".
+// Rule: docs/RULES.md, "Polynomials in time" (Lieske 1977; source 000, equation 3.6).
 pub fn obliquity_of(t: Tt) -> i64
     requires { ⌜ InRange (t .0) ⌝ }
     ensures { λ r. ⌜ r ≡ obliquity t ⌝ }
@@ -57,11 +57,11 @@ pub fn obliquity_of(t: Tt) -> i64
 //
 // Given: t, TT, any.
 // Returned: ε in µas, or refusal 12.
-// Rule: 01, "Polynomials in time".
+// Rule: docs/RULES.md, "Polynomials in time".
 pub fn obliquity(t: Tt) -> Angle
     ensures { λ r. ⌜ r ≡ obliquityAt t ⌝ }
 {
-    if refused_instant(t.0) {
+    if instant_refused(t.0) {
         return Angle::Refused(Refusal::Instant);
     }
     Angle::Of(obliquity_of(t))

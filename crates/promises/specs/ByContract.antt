@@ -41,11 +41,11 @@ use Rattle.reading.proofs.reading as reading
 use Rattle.turning.proofs.turn as turn
 use Rattle.place.proofs.place as place
 use Rattle.night.proofs.night_of as night-of
-use Rattle.star_file.proofs.reading.list_count as list-count
-use Rattle.star_file.proofs.reading.list_star as list-star
-use Rattle.star_list.proofs.read_list as read-list
-use Rattle.entries_writing.proofs.write_list as write-list
-use Rattle.star_writing.proofs.list_write as list-write
+use Rattle.list_file.proofs.list_count as list-count
+use Rattle.list_file.proofs.list_star as list-star
+use Rattle.entries_read.proofs.read_list as read-list
+use Rattle.entries_write.proofs.write_list as write-list
+use Rattle.list_from_numbers.proofs.list_write as list-write
 use Rattle.night_list.proofs.night_list as night-list
 
 module _ {M : Type 1} (𝓤 : URA M) (H : Heap 𝓤) (A : Atoms 𝓤) (mem : Memory → SProp 𝓤) (run : Routine → Fun 𝓤) where

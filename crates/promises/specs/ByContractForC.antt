@@ -10,7 +10,7 @@ use ghost.Atoms.{Atoms}
 use contract.Monad.{Fun}
 use denote.Ref.{now}
 use denote.Triple.Clauses.{Clauses}
-use Rattle.rules.specs.Answers.{placedAnswer, turnedAnswer, listedAnswer, starredAnswer}
+use Rattle.rules.specs.Answers.{placedAnswer, turnedAnswer, listedAnswer, listedStarAnswer}
 use Rattle.rules.specs.Turning.{turned}
 use Rattle.rules.specs.Reading.{reading}
 use Rattle.rules.specs.Place.{place}
@@ -63,7 +63,7 @@ module _ {M : Type 1} (𝓤 : URA M) (H : Heap 𝓤) (A : Atoms 𝓤) (mem : Mem
 
   -- file, index
   pub turbelicus-list-star-answers : Tells 𝓤 turbelicus-list-star.ended (turbelicus-list-star.clauses 𝓤 H A mem run)
-      (λ κs passed a x. a ≡ starredOut (starredAnswer (listStar (now (passed .0)) (passed .1 .0))))
+      (λ κs passed a x. a ≡ starredOut (listedStarAnswer (listStar (now (passed .0)) (passed .1 .0))))
   turbelicus-list-star-answers κs passed g a x = id⊢ 𝓤 _
 
   -- numbers, room

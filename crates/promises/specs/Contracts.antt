@@ -41,32 +41,47 @@ module _ {M : Type 1} (𝓤 : URA M) where
   pub so-told : {P : SProp 𝓤} {φ ψ : Type 0} → ent 𝓤 P (fact 𝓤 φ) → (φ → ψ) → ent 𝓤 P (fact 𝓤 ψ)
   so-told {φ = φ} {ψ = ψ} h f = via 𝓤 (fact 𝓤 φ) h (fact-mono 𝓤 φ ψ f)
 
-  -- two assertions that tell of v and of w that they are the rule's
-  told : {W : Type 0} {P Q : SProp 𝓤} (v w rule : W) → ent 𝓤 P (fact 𝓤 (v ≡ rule)) → ent 𝓤 Q (fact 𝓤 (w ≡ rule))
-      → ent 𝓤 (conj 𝓤 P Q) (fact 𝓤 (v ≡ w))
-  told {P = P} {Q = Q} v w rule h k =
-      fact-use 𝓤 (v ≡ rule) (via 𝓤 P (conjL 𝓤 P Q) h) (λ p.
-      fact-use 𝓤 (w ≡ rule) (via 𝓤 Q (conjR 𝓤 P Q) k) (λ q.
-      factI 𝓤 (v ≡ w) (conj 𝓤 P Q) (p ∙ sym q)))
+  -- and so is what follows from two things told
+  pub both-told : {P : SProp 𝓤} {p q r : Type 0} → ent 𝓤 P (fact 𝓤 p) → ent 𝓤 P (fact 𝓤 q) → (p → q → r)
+      → ent 𝓤 P (fact 𝓤 r)
+  both-told {P = P} {p = p} {q = q} {r = r} h k f =
+      fact-use 𝓤 p h (λ x. fact-use 𝓤 q k (λ y. factI 𝓤 r P (f x y)))
 
-  both-told : {W X : Type 0} {P Q : SProp 𝓤} (v w rule : W) (a b after : X)
+  -- by two clauses of one contract
+  pub clauses-told : {p q r : Type 0} → (p → q → r) → ent 𝓤 (sep 𝓤 (fact 𝓤 p) (fact 𝓤 q)) (fact 𝓤 r)
+  clauses-told {p = p} {q = q} f = both-told (fst∗ 𝓤 (fact 𝓤 p) (fact 𝓤 q)) (snd∗ 𝓤 (fact 𝓤 p) (fact 𝓤 q)) f
+
+  -- by two assertions, and by three
+  pub together : {P Q : SProp 𝓤} {p q r : Type 0} → ent 𝓤 P (fact 𝓤 p) → ent 𝓤 Q (fact 𝓤 q)
+      → (p → q → r) → ent 𝓤 (conj 𝓤 P Q) (fact 𝓤 r)
+  together {P = P} {Q = Q} h k f = both-told (via 𝓤 P (conjL 𝓤 P Q) h) (via 𝓤 Q (conjR 𝓤 P Q) k) f
+
+  pub all-together : {P Q R : SProp 𝓤} {p q r s : Type 0}
+      → ent 𝓤 P (fact 𝓤 p) → ent 𝓤 Q (fact 𝓤 q) → ent 𝓤 R (fact 𝓤 r)
+      → (p → q → r → s) → ent 𝓤 (conj 𝓤 P (conj 𝓤 Q R)) (fact 𝓤 s)
+  all-together {q = q} {r = r} h k l f =
+      together h (together {r = q × r} k l (λ y z. (y, z))) (λ x yz. f x (yz .0) (yz .1))
+
+  -- two assertions that tell of v and of w that they are the rule's
+  told-one : {W : Type 0} {P Q : SProp 𝓤} (v w rule : W)
+      → ent 𝓤 P (fact 𝓤 (v ≡ rule)) → ent 𝓤 Q (fact 𝓤 (w ≡ rule)) → ent 𝓤 (conj 𝓤 P Q) (fact 𝓤 (v ≡ w))
+  told-one v w rule h k = together h k (λ p q. p ∙ sym q)
+
+  told-each : {W X : Type 0} {P Q : SProp 𝓤} (v w rule : W) (a b after : X)
       → ent 𝓤 P (fact 𝓤 (v ≡ rule)) → ent 𝓤 P (fact 𝓤 (a ≡ after))
       → ent 𝓤 Q (fact 𝓤 (w ≡ rule)) → ent 𝓤 Q (fact 𝓤 (b ≡ after))
       → ent 𝓤 (conj 𝓤 P Q) (fact 𝓤 ((v ≡ w) × (a ≡ b)))
-  both-told {P = P} {Q = Q} v w rule a b after h h′ k k′ =
-      fact-use 𝓤 (v ≡ w) (told v w rule h k) (λ p.
-      fact-use 𝓤 (a ≡ b) (told a b after h′ k′) (λ q.
-      factI 𝓤 ((v ≡ w) × (a ≡ b)) (conj 𝓤 P Q) (p, q)))
+  told-each v w rule a b after h h′ k k′ = both-told (told-one v w rule h k) (told-one a b after h′ k′) (λ p q. (p, q))
 
   -- `⌜ r ≡ rule ⌝`
   pub one : {W : Type 0} (v w rule : W)
       → ent 𝓤 (conj 𝓤 (fact 𝓤 (v ≡ rule)) (fact 𝓤 (w ≡ rule))) (fact 𝓤 (v ≡ w))
-  one v w rule = told v w rule (id⊢ 𝓤 (fact 𝓤 (v ≡ rule))) (id⊢ 𝓤 (fact 𝓤 (w ≡ rule)))
+  one v w rule = told-one v w rule (id⊢ 𝓤 (fact 𝓤 (v ≡ rule))) (id⊢ 𝓤 (fact 𝓤 (w ≡ rule)))
 
   -- `⌜ (r ≡ rule) × more ⌝`
   pub one-and : {W : Type 0} (v w rule : W) (more more′ : Type 0)
       → ent 𝓤 (conj 𝓤 (fact 𝓤 ((v ≡ rule) × more)) (fact 𝓤 ((w ≡ rule) × more′))) (fact 𝓤 (v ≡ w))
-  one-and v w rule more more′ = told v w rule
+  one-and v w rule more more′ = told-one v w rule
       (fact-mono 𝓤 ((v ≡ rule) × more) (v ≡ rule) (λ p. p .0))
       (fact-mono 𝓤 ((w ≡ rule) × more′) (w ≡ rule) (λ p. p .0))
 
@@ -74,7 +89,7 @@ module _ {M : Type 1} (𝓤 : URA M) where
   pub one-both : {W X : Type 0} (v w rule : W) (a b after : X)
       → ent 𝓤 (conj 𝓤 (fact 𝓤 ((v ≡ rule) × (a ≡ after))) (fact 𝓤 ((w ≡ rule) × (b ≡ after))))
       (fact 𝓤 ((v ≡ w) × (a ≡ b)))
-  one-both v w rule a b after = both-told v w rule a b after
+  one-both v w rule a b after = told-each v w rule a b after
       (fact-mono 𝓤 ((v ≡ rule) × (a ≡ after)) (v ≡ rule) (λ p. p .0))
       (fact-mono 𝓤 ((v ≡ rule) × (a ≡ after)) (a ≡ after) (λ p. p .1))
       (fact-mono 𝓤 ((w ≡ rule) × (b ≡ after)) (w ≡ rule) (λ p. p .0))
@@ -84,13 +99,11 @@ module _ {M : Type 1} (𝓤 : URA M) where
   pub one-each : {W X : Type 0} (v w rule : W) (a b after : X)
       → ent 𝓤 (conj 𝓤 (sep 𝓤 (fact 𝓤 (v ≡ rule)) (fact 𝓤 (a ≡ after))) (sep 𝓤 (fact 𝓤 (w ≡ rule)) (fact 𝓤 (b ≡ after))))
       (fact 𝓤 ((v ≡ w) × (a ≡ b)))
-  one-each v w rule a b after = both-told v w rule a b after
+  one-each v w rule a b after = told-each v w rule a b after
       (fst∗ 𝓤 (fact 𝓤 (v ≡ rule)) (fact 𝓤 (a ≡ after))) (snd∗ 𝓤 (fact 𝓤 (v ≡ rule)) (fact 𝓤 (a ≡ after)))
       (fst∗ 𝓤 (fact 𝓤 (w ≡ rule)) (fact 𝓤 (b ≡ after))) (snd∗ 𝓤 (fact 𝓤 (w ≡ rule)) (fact 𝓤 (b ≡ after)))
 
   -- `⌜ now (p .exit) ≡ after ⌝`, of a function that answers nothing
   pub one-content : {X : Type 0} (u v : Unit {0}) (a b after : X)
       → ent 𝓤 (conj 𝓤 (fact 𝓤 (a ≡ after)) (fact 𝓤 (b ≡ after))) (fact 𝓤 ((u ≡ v) × (a ≡ b)))
-  one-content u v a b after =
-      fact-use 𝓤 (a ≡ b) (one a b after) (λ p.
-      factI 𝓤 ((u ≡ v) × (a ≡ b)) (conj 𝓤 (fact 𝓤 (a ≡ after)) (fact 𝓤 (b ≡ after))) (refl, p))
+  one-content u v a b after = so-told (one a b after) (λ p. (refl, p))

@@ -6,7 +6,7 @@ use mathlib.Core.Path.{_≡_}
 use mathlib.Core.List.{List}
 use Prim.Native.Nat.{suc, _+_, _-_, _*_, _≤_, _<_, _^_}
 use native.Mathlib.Omega.{arith}
-use lib.Dec.{le→leb}
+use lib.Dec.{lit≤, le→leb}
 use lib.ListN.{length}
 use lib.IntN.{ℤ, pos, negsuc, natAbs, _+ℤ_, _-ℤ_, _*ℤ_}
 use lib.Signed.{_<ℤ_, _≤ℤ_, leZ-yes, ltZ-yes}
@@ -31,7 +31,7 @@ use Rattle.rules.specs.Sidereal.{siderealPolynomial, siderealRow}
 use Rattle.rules.specs.Reading.{reading}
 use Rattle.rules.specs.Place.{place}
 use Rattle.laws.specs.UpTo.{UpTo}
-use Rattle.laws.specs.Polynomials.{polynomial-near, each-within-2}
+use Rattle.laws.specs.Polynomials.{polynomial-near}
 use Rattle.laws.specs.Angles.{pair-near}
 use Rattle.laws.specs.Reading.{reading-reads}
 use Rattle.laws.specs.Place.{place-ranges}
@@ -74,26 +74,25 @@ pub record PolynomialsWithin2 (t : Tt) (u : Ut) : Type 0 where
 
 pub each-polynomial-within-2 : (t : Tt) (u : Ut) → natAbs (t .0) ≤ century → natAbs (u .0) ≤ century
     → PolynomialsWithin2 t u
-each-polynomial-within-2 t u h k =
-    let e = each-within-2 t u h k in
-    record {
-      zeta = e .zeta;
-      z = e .z;
-      theta = e .theta;
-      obliquity = e .obliquity;
-      moon = e .moon;
-      sun = e .sun;
-      latitude = e .latitude;
-      elongation = e .elongation;
-      node = e .node;
-      mean-longitude = e .mean-longitude;
-      first = e .first;
-      second = e .second;
-      third = e .third;
-      longitude-amplitude = e .longitude-amplitude;
-      obliquity-amplitude = e .obliquity-amplitude;
-      sidereal = e .sidereal;
-    }
+unfolding precession obliquity arguments meanLongitude siderealPolynomial
+each-polynomial-within-2 t u h k = record {
+  zeta = polynomial-within-2 zetaRow (t .0) (lit≤ tt) h;
+  z = polynomial-within-2 zRow (t .0) (lit≤ tt) h;
+  theta = polynomial-within-2 thetaRow (t .0) (lit≤ tt) h;
+  obliquity = polynomial-within-2 obliquityRow (t .0) (lit≤ tt) h;
+  moon = polynomial-within-2 moonRow (t .0) (lit≤ tt) h;
+  sun = polynomial-within-2 sunRow (t .0) (lit≤ tt) h;
+  latitude = polynomial-within-2 latitudeRow (t .0) (lit≤ tt) h;
+  elongation = polynomial-within-2 elongationRow (t .0) (lit≤ tt) h;
+  node = polynomial-within-2 nodeRow (t .0) (lit≤ tt) h;
+  mean-longitude = polynomial-within-2 meanLongitudeRow (t .0) (lit≤ tt) h;
+  first = polynomial-within-2 firstRow (t .0) (lit≤ tt) h;
+  second = polynomial-within-2 secondRow (t .0) (lit≤ tt) h;
+  third = polynomial-within-2 thirdRow (t .0) (lit≤ tt) h;
+  longitude-amplitude = λ m. polynomial-within-2 (longitudeAmplitude m) (t .0) (lit≤ tt) h;
+  obliquity-amplitude = λ m. polynomial-within-2 (obliquityAmplitude m) (t .0) (lit≤ tt) h;
+  sidereal = polynomial-within-2 siderealRow (u .0) (lit≤ tt) k;
+}
 
 -- ---- sine and cosine
 

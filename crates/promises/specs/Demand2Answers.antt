@@ -16,7 +16,7 @@ use Rattle.rules.specs.declared.Arguments.{Arguments}
 use Rattle.rules.specs.declared.Nutation.{Nutation}
 use Rattle.rules.specs.declared.Angle.{Angle}
 use Rattle.rules.specs.declared.Precessed.{Precessed}
-use Rattle.rules.specs.declared.Argued.{Argued}
+use Rattle.rules.specs.declared.FiveArguments.{FiveArguments}
 use Rattle.rules.specs.declared.Nutated.{Nutated}
 use Rattle.rules.specs.Units.{circle, day, unit}
 use Rattle.rules.specs.Rounding.{rnd, modulo}
@@ -43,12 +43,10 @@ answered given refused t b c apart one e = by (instantRefused t) refl e
     by true i e = absurd (apart e)
     by false i e = (one e, in-range t i)
 
-never : (r : Refusal) (a : ℤ) → Angle.Refused r ≡ Angle.Of a → ⊥
-never r a e = let z : _≡_ {A = ℕ} 0 1 = cc in omega arith
-
 answered-angle : (t a b : ℤ) → angleAt t a ≡ Angle.Of b → (a ≡ b) × InRange t
 unfolding angleAt
-answered-angle t a b e = answered Angle.Of (Angle.Refused Refusal.Instant) t a b (never Refusal.Instant b) (λ e. cc) e
+answered-angle t a b e = answered Angle.Of (Angle.Refused Refusal.Instant) t a b
+    (λ e. let z : _≡_ {A = ℕ} 0 1 = cc in omega arith) (λ e. cc) e
 
 -- of UT and of TT alone
 of-tt : (t : Tt) → InRange (t .0) → PolynomialsWithin2 t (record { 0 = pos 0 })
@@ -92,10 +90,10 @@ rule-arguments t h =
     let n = of-tt t h in
     record { moon = n .moon; sun = n .sun; latitude = n .latitude; elongation = n .elongation; node = n .node }
 
-pub arguments-within-2 : (t : Tt) (a : Arguments) → argumentsAt t ≡ Argued.By a → ArgumentsWithin2 t a
+pub arguments-within-2 : (t : Tt) (a : Arguments) → argumentsAt t ≡ FiveArguments.By a → ArgumentsWithin2 t a
 unfolding argumentsAt
 arguments-within-2 t a e =
-    let b = answered Argued.By (Argued.Refused Refusal.Instant) (t .0) (arguments t) a
+    let b = answered FiveArguments.By (FiveArguments.Refused Refusal.Instant) (t .0) (arguments t) a
     (λ e. let z : _≡_ {A = ℕ} 0 1 = cc in omega arith) (λ e. cc) e in
     subst (ArgumentsWithin2 t) (b .0) (rule-arguments t (b .1))
 

@@ -19,7 +19,7 @@ use Rattle.rules.specs.declared.Arguments.{Arguments}
 use Rattle.rules.specs.declared.Nutation.{Nutation}
 use Rattle.rules.specs.declared.Angle.{Angle}
 use Rattle.rules.specs.declared.Precessed.{Precessed}
-use Rattle.rules.specs.declared.Argued.{Argued}
+use Rattle.rules.specs.declared.FiveArguments.{FiveArguments}
 use Rattle.rules.specs.declared.Nutated.{Nutated}
 use Rattle.rules.specs.declared.Moment.{Moment}
 use Rattle.rules.specs.declared.Star.{Star}
@@ -93,7 +93,7 @@ module _ {M : Type 1} (𝓤 : URA M) (H : Heap 𝓤) (A : Atoms 𝓤) (mem : Mem
       (λ e b of. within.obliquity-within-2 (passed .0) b (sym e ∙ of))
 
   pub arguments-within-2 : Tells 𝓤 arguments.ended (arguments.clauses 𝓤 H A mem run)
-      (λ κs passed a x. (b : Arguments) → a ≡ Argued.By b → within.ArgumentsWithin2 (passed .0) b)
+      (λ κs passed a x. (b : Arguments) → a ≡ FiveArguments.By b → within.ArgumentsWithin2 (passed .0) b)
   arguments-within-2 κs passed g a x = so-told 𝓤 (answers.arguments-answers 𝓤 H A mem run κs passed g a x)
       (λ e b by. within.arguments-within-2 (passed .0) b (sym e ∙ by))
 

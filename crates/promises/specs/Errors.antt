@@ -1,4 +1,4 @@
--- Document 01, "Errors to expect": what each comes to. That none is made, the contracts say; the edits that make them
+-- docs/RULES.md, "Errors to expect": what each comes to. That none is made, the contracts say; the edits that make them
 -- are refused. A return to length that is dropped is `Demand3` without its bound: `length:no_return_to_length`.
 use mathlib.Core.Path.{_≡_, refl}
 use Prim.Native.Nat.{ℕ, _*_, _≤_, _<_, _^_}
@@ -10,7 +10,7 @@ use Rattle.rules.specs.Units.{halfQuarter}
 use Rattle.rules.specs.Rounding.{rnd, rndSize, modulo}
 use Rattle.rules.specs.Circle.{radianParts, squareParts, stage, stages, rawSine, rawCosine, pairOfParts}
 use Rattle.rules.specs.Length.{square, pairSquares, rootFrom, root, partTo, pairToLength}
-use Rattle.rules.specs.Polynomials.{step, polynomial}
+use Rattle.rules.specs.Polynomials.{timesTPlus, polynomial}
 use Rattle.rules.specs.Precession.{precession}
 use Rattle.rules.specs.Sidereal.{siderealPolynomial, sidereal}
 use Rattle.laws.specs.Rounding.{rnd-neg}
@@ -40,11 +40,11 @@ abbrev tt′ : ℤ → Tt
 tt′ t = record { 0 = t }
 
 pub precession-of-ut : precession (tt′ (pos 827308869184)) .zeta -ℤ precession (tt′ (pos 827308800000)) .zeta ≡ pos 51
-unfolding precession polynomial step rnd rndSize
+unfolding precession polynomial timesTPlus rnd rndSize
 precession-of-ut = refl
 
 pub sidereal-of-tt : sidereal (ut (pos 827308869184)) -ℤ sidereal (ut (pos 827308800000)) ≡ pos 1040601293
-unfolding sidereal siderealPolynomial polynomial step rnd rndSize modulo
+unfolding sidereal siderealPolynomial polynomial timesTPlus rnd rndSize modulo
 sidereal-of-tt = refl
 
 -- "Rounding quotients downward: negative angles break the mirror": Rnd keeps it

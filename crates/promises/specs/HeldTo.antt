@@ -1,5 +1,5 @@
--- Document 01, "What an answer is held to": answers that would be too cheap, and a case that each of them breaks. That
--- no second answer fits is `OnlyOne`.
+-- docs/RULES.md, "What an answer is held to": answers that would be too cheap, and a case that each of them breaks.
+-- That no second answer fits is `OnlyOne`.
 use mathlib.Core.Path.{_≡_, refl, sym, ap, _∙_}
 use mathlib.Core.Bool.{false}
 use mathlib.Core.List.{List, [], _∷_, map}
@@ -16,7 +16,7 @@ use Rattle.rules.specs.Units.{quarter, unit, +_, −_, same, between, within}
 use Rattle.rules.specs.Rounding.{rndSize, rnd, modulo}
 use Rattle.rules.specs.Years.{leap, months, sum, upFrom, years}
 use Rattle.rules.specs.Calendar.{daysBefore2000, dayCount, dayNumber, yearRefused, monthDays, dayRefused}
-use Rattle.rules.specs.Dates.{taiMinusUtc, beforeStep, lastSecond, timeRefused, differenceRefused, instants}
+use Rattle.rules.specs.Dates.{taiMinusUtc, beforeStep, lastSecond, timeRefused, ut1MinusUtcRefused, instants}
 use Rattle.rules.specs.Length.{rootFrom, root, square, pairSquares, squares, partTo, pairToLength, toLength}
 use Rattle.rules.specs.Length.{lengthRefused, broughtToLength}
 use Rattle.rules.specs.Circle.{radianParts, squareParts, stage, stages, rawSine, rawCosine, pairOfParts, pairToHalf}
@@ -88,5 +88,5 @@ pub one-of-two : (nightList evening here twoEntries ≡ Listed.Count 1)
     × (map markOf (entriesAfterNight evening here twoEntries) ≡ 0 ∷ 5 ∷ [])
 unfolding nightList listedIn marked worked listRefused workedIn entriesAfterNight nightOf nightAt instants
     same between within leap months sum upFrom years daysBefore2000 dayCount dayNumber yearRefused monthDays
-    dayRefused taiMinusUtc beforeStep lastSecond timeRefused differenceRefused starRefused siteRefused
+    dayRefused taiMinusUtc beforeStep lastSecond timeRefused ut1MinusUtcRefused starRefused siteRefused
 one-of-two = (refl, refl)

@@ -12,15 +12,15 @@ use Rattle.rules.specs.declared.Dated.{Dated}
 use Rattle.rules.specs.declared.Entry.{Entry}
 use Rattle.rules.specs.declared.Listed.{Listed}
 use Rattle.rules.specs.Refusals.{given}
-use Rattle.rules.specs.Answers.{starredAnswer}
+use Rattle.rules.specs.Answers.{listedStarAnswer}
 use Rattle.rules.specs.Calendar.{dayOf, dateOf}
 use Rattle.rules.specs.Circle.{pair}
 use Rattle.rules.specs.Years.{upFrom}
-use Rattle.rules.specs.StarList.{countIn}
+use Rattle.rules.specs.ListFile.{countIn}
 use Rattle.rules.specs.ListReading.{listCount, listRead, freshEntry, leaving, entriesAfterRead, listStar}
 use Rattle.rules.specs.ListWriting.{starsOf, listWritten, roomAfterWrite, numbersWritten, roomAfterNumbers}
 use Rattle.laws.specs.Bytes.{Bytes}
-use Rattle.laws.specs.StarList.{read-accepted}
+use Rattle.laws.specs.ListFile.{read-accepted}
 use Rattle.laws.specs.RoundTrip as round-trip
 use Rattle.laws.specs.NumbersRoundTrip as numbers-round-trip
 use Rattle.laws.specs.DayAndDate as day-and-date
@@ -55,7 +55,7 @@ written-then-read entries room size e others l =
 
 -- the numbers of the stars of a file by their indexes, from 0 to below the count, one behind the other
 abbrev pub numbersIn : List ℕ → ℕ → List ℤ
-numbersIn file count = flatMap (λ i. starredAnswer (listStar file i) .values) (upFrom 0 count)
+numbersIn file count = flatMap (λ i. listedStarAnswer (listStar file i) .values) (upFrom 0 count)
 
 pub stars-then-written : (file : List ℕ) → Bytes file → (count : ℕ) → listCount file ≡ Listed.Count count
     → (room : List ℕ) → length file ≤ length room
@@ -69,7 +69,7 @@ pub record ReadBack (numbers : List ℤ) (file : List ℕ) : Type 0 where
   pub count : listCount file ≡ Listed.Count (length numbers / 4)
   -- each with its four
   pub star : (i : ℕ) → i < length numbers / 4
-      → starredAnswer (listStar file i)
+      → listedStarAnswer (listStar file i)
       ≡ given (getD numbers (4 * i) (pos 0) ∷ getD numbers (4 * i + 1) (pos 0)
       ∷ getD numbers (4 * i + 2) (pos 0) ∷ getD numbers (4 * i + 3) (pos 0) ∷ [])
   -- and none is left over

@@ -9,7 +9,7 @@ ghost use Rattle.rules.specs.Refusals as rule;
 //
 // Given: why nothing is answered.
 // Returned: from 1 to 13.
-// Rule: 01, "Refusal numbers".
+// Rule: docs/RULES.md, "Refusal numbers".
 pub fn number(r: Refusal) -> i64
     ensures { λ n. ⌜ n ≡ pos (rule.number r) ⌝ }
 {
@@ -17,7 +17,7 @@ pub fn number(r: Refusal) -> i64
         Refusal::Year => 1,
         Refusal::Day => 2,
         Refusal::Time => 3,
-        Refusal::Difference => 4,
+        Refusal::Ut1MinusUtc => 4,
         Refusal::Star => 5,
         Refusal::Site => 6,
         Refusal::Direction => 7,

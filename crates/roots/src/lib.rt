@@ -31,7 +31,7 @@ const SQUARE_STEP: i64 = 2147483648;
 //
 // Given: n, not negative.
 // Returned: the largest number whose square is at most n.
-// Rule: 01, "L is the whole root (downward)".
+// Rule: docs/RULES.md, "Sine and cosine".
 //
 // Newton's steps from a number that is not below the root: each is nearer until one is the root.
 pub fn whole_root(n: i64) -> i64
@@ -62,7 +62,7 @@ fn first_trial(n: i64) -> i64
 //
 // Given: n, not negative.
 // Returned: the largest number whose square is at most n.
-// Rule: 01, "L is the whole root (downward)".
+// Rule: docs/RULES.md, "Sine and cosine".
 //
 // Most lengths are near 2^30, and there the root needs no division.
 pub fn length_root(n: i64) -> i64

@@ -1,2 +1,3 @@
 -- What the proofs share.
 mod Half
+pub mod ByUnit

@@ -21,7 +21,7 @@ const HALF_UNIT: i64 = 536870912;
 //
 // Given: a, any; b from 1 to 2^62.
 // Returned: Rnd(a / b), no larger in size than a.
-// Rule: 01, "Numbers, angles, instants".
+// Rule: docs/RULES.md, "Numbers, angles, instants".
 //
 // Both operators go toward zero and keep the sign of a, so there is no case on signs. The text-book
 // (2 * a + b) / (2 * b) would pass the word from a = 2^62 up.
@@ -30,12 +30,12 @@ pub fn rnd_quotient(a: i64, b: i64) -> i64
     requires { ⌜ natAbs b ≤ 2 ^ 62 ⌝ }
     ensures { λ r. ⌜ r ≡ rnd a (natAbs b) ⌝ }
 {
-    a / b + step_away(a % b, b)
+    a / b + one_away(a % b, b)
 }
 
-// From the quotient toward zero to the nearest: 1 or -1 where the rest is half of b or more, 0 where
-// it is less.
-fn step_away(rest: i64, b: i64) -> i64
+// From the quotient toward zero to the nearest: 1 or -1 where the rest is half of b or more, 0
+// where it is less.
+fn one_away(rest: i64, b: i64) -> i64
     requires { ⌜ pos 0 <ℤ b ⌝ }
     requires { ⌜ natAbs b ≤ 2 ^ 62 ⌝ }
     requires { ⌜ natAbs rest < natAbs b ⌝ }
@@ -48,7 +48,7 @@ fn step_away(rest: i64, b: i64) -> i64
 //
 // Given: a, to 2^62 in size; b from 1 to 2^62.
 // Returned: Rnd(a / b), no larger in size than a.
-// Rule: 01, "Numbers, angles, instants".
+// Rule: docs/RULES.md, "Numbers, angles, instants".
 //
 // Half of b is added away from zero, and the operator goes back toward zero.
 pub fn rnd_short_quotient(a: i64, b: i64) -> i64
@@ -69,7 +69,7 @@ pub fn rnd_short_quotient(a: i64, b: i64) -> i64
 //
 // Given: a, to 2^62 in size.
 // Returned: Rnd(a / 2^30), no larger in size than a.
-// Rule: 01, "Numbers, angles, instants".
+// Rule: docs/RULES.md, "Numbers, angles, instants".
 //
 // A shift goes down: half of 2^30 is added, and one less below nought, where a half goes down too.
 pub fn rnd_by_unit(a: i64) -> i64
@@ -84,7 +84,7 @@ pub fn rnd_by_unit(a: i64) -> i64
 // Given: what `ProductFits` asks: d from 1 to 2^42, a to 2^42 and b to 2^60 in size, the answer to
 // 2^61.
 // Returned: Rnd(a * b / d), to the last unit.
-// Rule: 01, "where a rule's product is larger it is carried in parts, with the same answer".
+// Rule: docs/RULES.md, "Numbers, angles, instants": a larger product is carried in parts.
 //
 // As dividing by hand: b in three digits of 20 bits, what each leaves over carried to the next.
 pub fn rnd_product_quotient(a: i64, b: i64, d: i64) -> i64

@@ -1,8 +1,8 @@
--- Document 01, "Refusal numbers": the number and values of each answer. Definitions only.
+-- docs/RULES.md, "Refusal numbers": the number and values of each answer. Definitions only.
 use mathlib.Core.List.{List, [], _∷_, _++_}
 use lib.IntN.{ℤ, pos}
-use Rattle.rules.specs.Data.{Pair, Moment, Numbered, Dated, Instants, Line, Angle, Precessed, Argued, Nutated}
-use Rattle.rules.specs.Data.{Turned, Prepared, Placed, Listed, Starred}
+use Rattle.rules.specs.Data.{Pair, Moment, Numbered, Dated, Instants, Line, Angle, Precessed, FiveArguments, Nutated}
+use Rattle.rules.specs.Data.{Turned, Prepared, Placed, Listed, ListedStar}
 use Rattle.rules.specs.Refusals.{Answer, given, refused, otherForm}
 
 -- the day number
@@ -23,7 +23,7 @@ instantsAnswer (Instants.Refused r) = refused r 2
 -- year, month, day; hour, minute, second, ms; UT1−UTC
 unfoldable pub momentNumbers : Moment → List ℤ
 momentNumbers m = m .date .year ∷ m .date .month ∷ m .date .day
-    ∷ m .time .hour ∷ m .time .minute ∷ m .time .second ∷ m .time .ms ∷ m .difference ∷ []
+    ∷ m .time .hour ∷ m .time .minute ∷ m .time .second ∷ m .time .ms ∷ m .«ut1_minus_utc» ∷ []
 
 unfoldable pub lineAnswer : Line → Answer
 lineAnswer (Line.Of m) = given (momentNumbers m)
@@ -40,9 +40,9 @@ precessedAnswer (Precessed.By p) = given (p .zeta ∷ p .z ∷ p .theta ∷ [])
 precessedAnswer (Precessed.Refused r) = refused r 3
 
 -- l, l′, F, D, Ω
-unfoldable pub arguedAnswer : Argued → Answer
-arguedAnswer (Argued.By a) = given (a .moon ∷ a .sun ∷ a .latitude ∷ a .elongation ∷ a .node ∷ [])
-arguedAnswer (Argued.Refused r) = refused r 5
+unfoldable pub fiveArgumentsAnswer : FiveArguments → Answer
+fiveArgumentsAnswer (FiveArguments.By a) = given (a .moon ∷ a .sun ∷ a .latitude ∷ a .elongation ∷ a .node ∷ [])
+fiveArgumentsAnswer (FiveArguments.Refused r) = refused r 5
 
 -- Δψ, Δε
 unfoldable pub nutatedAnswer : Nutated → Answer
@@ -65,9 +65,9 @@ listedAnswer (Listed.Count n) = given (pos n ∷ [])
 listedAnswer (Listed.Refused r) = refused r 1
 
 -- right ascension, declination, their motions
-unfoldable pub starredAnswer : Starred → Answer
-starredAnswer (Starred.Of s) = given (s .ra ∷ s .declination ∷ s .«ra_motion» ∷ s .«declination_motion» ∷ [])
-starredAnswer (Starred.Refused r) = refused r 4
+unfoldable pub listedStarAnswer : ListedStar → Answer
+listedStarAnswer (ListedStar.Of s) = given (s .ra ∷ s .declination ∷ s .«ra_motion» ∷ s .«declination_motion» ∷ [])
+listedStarAnswer (ListedStar.Refused r) = refused r 4
 
 -- a pair's two parts
 unfoldable pub parts : Pair → List ℤ
@@ -75,7 +75,7 @@ parts p = p .cosine ∷ p .sine ∷ []
 
 -- TT, then what each of the steps 3 to 6 takes
 unfoldable pub preparedAnswer : Prepared → Answer
-preparedAnswer (Prepared.For n) = given (n .tt .0 ∷ parts (n .zeta) ++ parts (n .theta) ++ parts (n .z)
+preparedAnswer (Prepared.For n) = given (n .tt .0 ∷ parts (n .zeta) ++ parts (n .«minus_theta») ++ parts (n .z)
     ++ (n .aberration .x ∷ n .aberration .y ∷ n .aberration .z ∷ [])
-    ++ parts (n .mean) ++ parts (n .longitude) ++ parts (n .obliquity) ++ parts (n .sidereal) ++ parts (n .latitude))
+    ++ parts (n .«minus_epsilon») ++ parts (n .«delta_psi») ++ parts (n .«true_epsilon») ++ parts (n .«minus_sidereal») ++ parts (n .«latitude_less_quarter»))
 preparedAnswer (Prepared.Refused r) = refused r 20

@@ -1,28 +1,28 @@
--- Document 01, "Polynomials in time": the five arguments of nutation (IAU 1980). Definitions only.
+-- docs/RULES.md, "Polynomials in time": the five arguments of nutation (IAU 1980). Definitions only.
 use mathlib.Core.Bool.{cond}
 use mathlib.Core.List.{List, [], _∷_}
 use lib.IntN.{ℤ}
-use Rattle.rules.specs.Data.{Tt, Arguments, Refusal, Argued}
+use Rattle.rules.specs.Data.{Tt, Arguments, Refusal, FiveArguments}
 use Rattle.rules.specs.Units.{+_, −_}
 use Rattle.rules.specs.Polynomials.{polynomial, instantRefused}
 
--- l
+-- l, the Moon's mean anomaly: in degrees M′ of source 000, section 3.5.1.2
 abbrev pub moonRow : List ℤ
 moonRow = + 485866733000 ∷ + 1717915922633000 ∷ + 31310000 ∷ + 64000 ∷ []
 
--- l′
+-- l′, the Sun's mean anomaly: M there
 abbrev pub sunRow : List ℤ
 sunRow = + 1287099804000 ∷ + 129596581224000 ∷ − 577000 ∷ − 12000 ∷ []
 
--- F
+-- F, the Moon's mean argument of latitude
 abbrev pub latitudeRow : List ℤ
 latitudeRow = + 335778877000 ∷ + 1739527263137000 ∷ − 13257000 ∷ + 11000 ∷ []
 
--- D
+-- D, the Moon's mean elongation from the Sun: E there
 abbrev pub elongationRow : List ℤ
 elongationRow = + 1072261307000 ∷ + 1602961601328000 ∷ − 6891000 ∷ + 19000 ∷ []
 
--- Ω
+-- Ω, the longitude of the Moon's ascending node
 abbrev pub nodeRow : List ℤ
 nodeRow = + 450160280000 ∷ − 6962890539000 ∷ + 7455000 ∷ + 8000 ∷ []
 
@@ -36,5 +36,5 @@ arguments t = record {
 }
 
 -- or refusal 12
-unfoldable pub argumentsAt : Tt → Argued
-argumentsAt t = cond (instantRefused (t .0)) (Argued.Refused Refusal.Instant) (Argued.By (arguments t))
+unfoldable pub argumentsAt : Tt → FiveArguments
+argumentsAt t = cond (instantRefused (t .0)) (FiveArguments.Refused Refusal.Instant) (FiveArguments.By (arguments t))

@@ -1,4 +1,4 @@
--- Document 01, "Refusal numbers": "Checks run in rising number where several apply". Definitions only.
+-- docs/RULES.md, "Refusal numbers": "Checks run in rising number where several apply". Definitions only.
 use mathlib.Core.Bool.{Bool, cond}
 use mathlib.Core.List.{List, [], _∷_}
 use Rattle.rules.specs.Data.{Refusal}

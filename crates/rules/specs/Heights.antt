@@ -1,4 +1,4 @@
--- Document 01, "Turns, readings, place": heights and declinations. Definitions only.
+-- docs/RULES.md, "Turns, readings, place": heights and declinations. Definitions only.
 use Prim.Native.Nat.{_+_}
 use mathlib.Core.Bool.{cond}
 use lib.Signed.{ltZ}

@@ -1,13 +1,13 @@
--- Document 01, "Lists": a list file read, with the refusals. Definitions only.
+-- docs/RULES.md, "Lists": a list file read, with the refusals. Definitions only.
 use Prim.Native.Nat.{ℕ}
 use mathlib.Core.Bool.{Bool, not, cond, _&&_}
 use mathlib.Core.List.{List, _++_, map}
 use lib.ListN.{length, drop}
 use lib.Dec.{eqb, leb, ltb}
 use lib.IntN.{pos}
-use Rattle.rules.specs.Data.{Star, Place, Entry, Refusal, Listed, Starred}
+use Rattle.rules.specs.Data.{Star, Place, Entry, Refusal, Listed, ListedStar}
 use Rattle.rules.specs.Bytes.{part, unsignedAt, sameBytes}
-use Rattle.rules.specs.StarList.{mark, headLength, most, countIn, fileLength, starIn, stars, anyRefused}
+use Rattle.rules.specs.ListFile.{mark, headLength, mostRecords, countIn, fileLength, starIn, stars, anyRefused}
 
 -- ---- reading: "a file is checked 9, 10, 5, then 11"
 
@@ -17,7 +17,7 @@ markRefused file = not (leb headLength (length file) && sameBytes (part 0 3 file
 
 -- refusal 10: "more than 64 records, or file length not exactly that of its count"
 unfoldable pub countRefused : List ℕ → Bool
-countRefused file = not (leb (countIn file) most && eqb (length file) (fileLength (countIn file)))
+countRefused file = not (leb (countIn file) mostRecords && eqb (length file) (fileLength (countIn file)))
 
 -- 9, 10 and 5, which are of the file alone: the number of its records
 unfoldable pub listCount : List ℕ → Listed
@@ -57,10 +57,10 @@ entriesAfterRead file entries =
 
 -- a star of a file by its index. After 9, 10 and 5 an index from the count on is refused 11: the file has no room for
 -- it
-unfoldable pub starAt : Listed → List ℕ → ℕ → Starred
-starAt (Listed.Refused r) file index = Starred.Refused r
+unfoldable pub starAt : Listed → List ℕ → ℕ → ListedStar
+starAt (Listed.Refused r) file index = ListedStar.Refused r
 starAt (Listed.Count count) file index =
-    cond (ltb index count) (Starred.Of (starIn (drop (fileLength index) file))) (Starred.Refused Refusal.Room)
+    cond (ltb index count) (ListedStar.Of (starIn (drop (fileLength index) file))) (ListedStar.Refused Refusal.Room)
 
-unfoldable pub listStar : List ℕ → ℕ → Starred
+unfoldable pub listStar : List ℕ → ℕ → ListedStar
 listStar file index = starAt (listCount file) file index

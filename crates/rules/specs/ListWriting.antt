@@ -1,4 +1,4 @@
--- Document 01, "Lists": a list file written, from entries and from plain numbers. Definitions only.
+-- docs/RULES.md, "Lists": a list file written, from entries and from plain numbers. Definitions only.
 use Prim.Native.Nat.{ℕ, zero, suc, _/_, _%_}
 use mathlib.Core.Bool.{Bool, not, cond, _||_}
 use mathlib.Core.List.{List, [], _∷_, _++_, map, foldr}
@@ -7,7 +7,7 @@ use lib.Dec.{eqb, ltb}
 use lib.IntN.{ℤ, pos}
 use Rattle.rules.specs.Data.{Star, Entry, Refusal, Listed}
 use Rattle.rules.specs.Bytes.{bytesOf}
-use Rattle.rules.specs.StarList.{mark, most, fileLength, recordOf, anyRefused}
+use Rattle.rules.specs.ListFile.{mark, mostRecords, fileLength, recordOf, anyRefused}
 use Rattle.rules.specs.ListReading.{leaving}
 
 -- ---- writing: 5, then 11
@@ -22,7 +22,7 @@ fileOf ss = mark ++ bytesOf 2 1 ++ bytesOf 2 (length ss) ++ foldr (λ s rest. re
 
 -- refusal 11, of a writer: "more than 64 entries given, or room too small for the file"
 unfoldable pub roomRefused : ℕ → ℕ → Bool
-roomRefused count room = ltb most count || ltb room (fileLength count)
+roomRefused count room = ltb mostRecords count || ltb room (fileLength count)
 
 -- 5 where a star is refused, then 11 where the room is; the length of the file of so many stars
 unfoldable pub writtenOf : Bool → Bool → ℕ → Listed

@@ -1,4 +1,4 @@
--- Document 01, "Dates": bytes of a form, and the numbers that they spell. Definitions only.
+-- docs/RULES.md, "Dates": bytes of a form, and the numbers that they spell. Definitions only.
 use Prim.Native.Nat.{ℕ, _+_, _-_, _*_}
 use mathlib.Core.Bool.{Bool, true, false, cond, _&&_}
 use mathlib.Core.List.{List, [], _∷_}

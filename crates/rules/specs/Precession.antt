@@ -1,4 +1,4 @@
--- Document 01, "Polynomials in time": precession and the mean obliquity. Definitions only.
+-- docs/RULES.md, "Polynomials in time": precession and the mean obliquity. Definitions only.
 use mathlib.Core.Bool.{cond}
 use mathlib.Core.List.{List, [], _∷_}
 use lib.IntN.{ℤ}
@@ -8,12 +8,15 @@ use Rattle.rules.specs.Polynomials.{polynomial, instantRefused, angleAt}
 
 -- ---- "Precession from J2000" (Lieske 1977): ζ, z, θ
 
+-- source 000, equation 3.14
 abbrev pub zetaRow : List ℤ
 zetaRow = + 0 ∷ + 2306218100 ∷ + 301880 ∷ + 17998 ∷ []
 
+-- source 000, equation 3.15
 abbrev pub zRow : List ℤ
 zRow = + 0 ∷ + 2306218100 ∷ + 1094680 ∷ + 18203 ∷ []
 
+-- source 000, equation 3.16, misprints 0.041883 in the last one
 abbrev pub thetaRow : List ℤ
 thetaRow = + 0 ∷ + 2004310900 ∷ − 426650 ∷ − 41833 ∷ []
 
@@ -30,6 +33,7 @@ precessionAt t = cond (instantRefused (t .0)) (Precessed.Refused Refusal.Instant
 
 -- ---- "Mean obliquity ε"
 
+-- Lieske 1977; source 000, equation 3.6
 abbrev pub obliquityRow : List ℤ
 obliquityRow = + 84381448000 ∷ − 46815000 ∷ − 590 ∷ + 1813 ∷ []
 

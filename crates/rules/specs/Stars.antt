@@ -1,4 +1,4 @@
--- Document 01, "Refusal numbers": the ranges of a star. Definitions only.
+-- docs/RULES.md, "Refusal numbers": the ranges of a star. Definitions only.
 use Prim.Native.Nat.{ℕ, _-_}
 use mathlib.Core.Bool.{Bool, not, _&&_}
 use lib.IntN.{pos}

@@ -1,11 +1,11 @@
--- Document 01, "Dates": years and months, and their days. Definitions only.
+-- docs/RULES.md, "Dates": years and months, and their days. Definitions only.
 use Prim.Native.Nat.{ℕ, zero, suc, _+_, _-_, _%_}
 use mathlib.Core.Bool.{cond}
 use mathlib.Core.List.{List, [], _∷_, map, foldr}
 use lib.ListN.{getD}
 use lib.Dec.{eqb, ltb}
 
--- "Days per month come from two rows, common and leap"
+-- "Days per month come from two rows, common and leap": January to December
 abbrev pub daysPerMonth : List (List ℕ)
 daysPerMonth =
     (31 ∷ 28 ∷ 31 ∷ 30 ∷ 31 ∷ 30 ∷ 31 ∷ 31 ∷ 30 ∷ 31 ∷ 30 ∷ 31 ∷ [])

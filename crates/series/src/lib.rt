@@ -1,5 +1,5 @@
-// Sine and cosine up to half a quarter, document 01, "Sine and cosine": the two rows, and the pair
-// that they give. Angles are in µas, all else in parts of 2^30.
+// Sine and cosine up to half a quarter, docs/RULES.md, "Sine and cosine": the two rows, and the
+// pair that they give. Angles are in µas, all else in parts of 2^30.
 
 pub mod parts;
-pub mod rows;
+mod rows;

@@ -1,14 +1,16 @@
-// From nought to half a quarter, document 01, "Sine and cosine": x of an angle, and the pair of x.
-// All but the angle is in parts of 2^30.
+// From nought to half a quarter, docs/RULES.md, "Sine and cosine": x of an angle, and the pair of
+// x. All but the angle is in parts of 2^30.
 
 use crate::rows;
 use rules::Pair;
 use units::HALF;
 use units::HALF_IN_PARTS;
 ghost use mathlib.Core.Path.{_≡_};
-ghost use Rattle.rules.specs.Units.{halfQuarter};
+ghost use Prim.Native.Nat.{_≤_};
+ghost use lib.IntN.{natAbs};
+ghost use Rattle.rules.specs.Units.{unit, halfQuarter};
 ghost use Rattle.rules.specs.Length.{pairToLength};
-ghost use Rattle.rules.specs.Circle.{radianParts, pairOfParts};
+ghost use Rattle.rules.specs.Circle.{radianParts, squareParts, pairOfParts};
 ghost use Rattle.laws.specs.UpTo.{UpTo};
 ghost use Rattle.laws.specs.Circle.{halfQuarterParts};
 ghost use Rattle.series.specs.Given.{PairGiven};
@@ -22,12 +24,20 @@ pub fn radian_parts(r: i64) -> i64
     rounding::rnd_product_quotient(r, HALF_IN_PARTS, HALF)
 }
 
+// w = Rnd(x^2 / 2^30).
+pub fn square_parts(x: i64) -> i64
+    requires { ⌜ natAbs x ≤ unit ⌝ }
+    ensures { λ r. ⌜ r ≡ squareParts x ⌝ }
+{
+    rounding::rnd_by_unit(x * x)
+}
+
 // The pair of x.
 pub fn pair_of_parts(x: i64) -> Pair
     requires { ⌜ UpTo x halfQuarterParts ⌝ }
     ensures { λ r. ⌜ r ≡ pairOfParts x ⌝ }
 {
-    let w = rows::square_parts(x);
+    let w = square_parts(x);
     let s = rounding::rnd_by_unit(x * rows::sine_factor(w));
     pair_to_length(rows::raw_cosine(w), s)
 }

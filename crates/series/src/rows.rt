@@ -1,21 +1,12 @@
-// The two rows of document 01, "Sine and cosine", worked stage by stage. All is in parts of 2^30.
+// The two rows of docs/RULES.md, "Sine and cosine", worked stage by stage. All is in parts of 2^30.
 
 use units::UNIT;
 ghost use mathlib.Core.Path.{_≡_};
-ghost use Prim.Native.Nat.{_≤_};
 ghost use lib.IntN.{pos, natAbs};
 ghost use Rattle.rules.specs.Units.{unit};
 ghost use Rattle.rules.specs.Circle as rule;
 ghost use Rattle.laws.specs.UpTo.{UpTo};
 ghost use Rattle.series.specs.Given.{StageGiven};
-
-// w = Rnd(x^2 / 2^30).
-pub fn square_parts(x: i64) -> i64
-    requires { ⌜ natAbs x ≤ unit ⌝ }
-    ensures { λ r. ⌜ r ≡ rule.squareParts x ⌝ }
-{
-    rounding::rnd_by_unit(x * x)
-}
 
 // p = 2^30 - Rnd(w p / (2^30 k)).
 fn stage(w: i64, k: i64, p: i64) -> i64
@@ -25,7 +16,7 @@ fn stage(w: i64, k: i64, p: i64) -> i64
     UNIT - rounding::rnd_short_quotient(w * p, UNIT * k)
 }
 
-// The sine's row: the sine over x.
+// The sine's row, k = 11 * 10, 9 * 8, .., 3 * 2: the sine over x.
 pub fn sine_factor(w: i64) -> i64
     requires { ⌜ UpTo w unit ⌝ }
     ensures { λ r. ⌜ r ≡ rule.stages w rule.sineRow (pos unit) ⌝ }
@@ -37,7 +28,7 @@ pub fn sine_factor(w: i64) -> i64
     stage(w, 6, p)
 }
 
-// The cosine's row: the cosine.
+// The cosine's row, k = 12 * 11, 10 * 9, .., 2 * 1: the cosine.
 pub fn raw_cosine(w: i64) -> i64
     requires { ⌜ UpTo w unit ⌝ }
     ensures { λ r. ⌜ r ≡ rule.stages w rule.cosineRow (pos unit) ⌝ }

@@ -5,7 +5,7 @@ use Prim.Native.Nat.{ℕ, _+_}
 use native.Mathlib.Omega.{arith}
 use lib.ListN.{length, length-append}
 use lib.Seq.{sets, length-sets}
-use Rattle.laws.specs.Room.{sets-append}
+use Rattle.laws.specs.PuttingBytes.{sets-append}
 
 -- `out` is the room with `row` put at a place, and `next` is the place after it
 pub record Put (room : List ℕ) (at : ℕ) (row out : List ℕ) (next : ℕ) : Type 0 where

@@ -12,7 +12,7 @@ ghost use Rattle.sexagesimal.specs.Sexagesimal.{spaced};
 ghost use Rattle.sexagesimal.specs.Sexagesimal as rule;
 
 // A byte, and then the last digits of n.
-pub fn put_marked(mark: u8, n: i64, digits: usize, at: usize, out: &mut [u8]) -> usize
+fn put_marked(mark: u8, n: i64, digits: usize, at: usize, out: &mut [u8]) -> usize
     requires { ⌜ (digits ≤ 2) × (at + 3 ≤ length (now out)) ⌝ }
     ensures { λ r. ⌜ r ≡ at + length (rule.marked mark digits (natAbs n)) ⌝ }
     ensures { λ _. ⌜ now (out .exit)
@@ -24,7 +24,7 @@ pub fn put_marked(mark: u8, n: i64, digits: usize, at: usize, out: &mut [u8]) ->
 }
 
 // Whole seconds: hours or degrees in `width` digits, minutes, seconds.
-pub fn put_clock(seconds: i64, width: usize, at: usize, out: &mut [u8]) -> usize
+fn put_clock(seconds: i64, width: usize, at: usize, out: &mut [u8]) -> usize
     requires { ⌜ (width ≤ 3) × (at + 9 ≤ length (now out)) ⌝ }
     ensures { λ r. ⌜ r ≡ at + length (rule.clock width (natAbs seconds)) ⌝ }
     ensures { λ _. ⌜ now (out .exit)
@@ -36,14 +36,7 @@ pub fn put_clock(seconds: i64, width: usize, at: usize, out: &mut [u8]) -> usize
 }
 
 // Whole seconds, and then the last digits of n after a point.
-pub fn put_parts(
-    width: usize,
-    seconds: i64,
-    digits: usize,
-    n: i64,
-    at: usize,
-    out: &mut [u8],
-) -> usize
+fn put_parts(width: usize, seconds: i64, digits: usize, n: i64, at: usize, out: &mut [u8]) -> usize
     requires { ⌜ (width ≤ 3) × ((digits ≤ 2) × (at + 12 ≤ length (now out))) ⌝ }
     ensures { λ r. ⌜ r ≡ at + length (rule.sexagesimal width (natAbs seconds) digits (natAbs n)) ⌝ }
     ensures { λ _. ⌜ now (out .exit)
@@ -76,7 +69,7 @@ pub fn put_bearing(angle: i64, at: usize, out: &mut [u8]) -> usize
 }
 
 // The sign of a number; nought has a plus.
-pub fn sign_of(n: i64) -> u8
+fn sign_of(n: i64) -> u8
     ensures { λ r. ⌜ r ≡ rule.signOf n ⌝ }
 {
     if n < 0 { 45 } else { 43 }

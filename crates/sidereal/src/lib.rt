@@ -1,7 +1,7 @@
 // The sidereal angle, of UT.
 
 use polynomials::cubic;
-use polynomials::refused_instant;
+use polynomials::instant_refused;
 use rules::Angle;
 use rules::Refusal;
 use rules::Ut;
@@ -14,7 +14,8 @@ ghost use Rattle.laws.specs.Instant.{InRange};
 //
 // Given: t, UT, from -Q to Q.
 // Returned: µas, from 0 to C - 1.
-// Rule: 01, "Polynomials in time" (Aoki 1982). UT counts from noon, and the constant has its 12 h.
+// Rule: docs/RULES.md, "Polynomials in time" (Aoki 1982). UT counts from noon, and the constant has
+// its 12 h.
 pub fn sidereal_of(t: Ut) -> i64
     requires { ⌜ InRange (t .0) ⌝ }
     ensures { λ r. ⌜ r ≡ sidereal t ⌝ }
@@ -26,7 +27,8 @@ pub fn sidereal_of(t: Ut) -> i64
 //
 // Given: t, UT, from -Q to Q.
 // Returned: µas, not reduced by C.
-// Rule: 01, "Polynomials in time" (Aoki 1982).
+// Rule: docs/RULES.md, "Polynomials in time" (Aoki 1982; source 001 misprints a minus before
+// 0.093104).
 pub fn sidereal_polynomial_of(t: Ut) -> i64
     requires { ⌜ InRange (t .0) ⌝ }
     ensures { λ r. ⌜ r ≡ siderealPolynomial t ⌝ }
@@ -38,11 +40,11 @@ pub fn sidereal_polynomial_of(t: Ut) -> i64
 //
 // Given: t, UT, any.
 // Returned: µas, from 0 to C - 1, or refusal 12.
-// Rule: 01, "Polynomials in time" (Aoki 1982).
+// Rule: docs/RULES.md, "Polynomials in time" (Aoki 1982).
 pub fn sidereal(t: Ut) -> Angle
     ensures { λ r. ⌜ r ≡ siderealAt t ⌝ }
 {
-    if refused_instant(t.0) {
+    if instant_refused(t.0) {
         return Angle::Refused(Refusal::Instant);
     }
     Angle::Of(sidereal_of(t))

@@ -1,15 +1,19 @@
-// Which stars are accepted.
+// Which stars and sites are accepted.
 
+use rules::Site;
 use rules::Star;
+use units::HALF;
+use units::QUARTER;
 ghost use mathlib.Core.Path.{_≡_};
 ghost use Rattle.rules.specs.Stars.{starRefused};
+ghost use Rattle.rules.specs.Night.{siteRefused};
 ghost use Rattle.stars.specs.Numbers.{starOf};
 
 // Refusal 5: the ranges of a star.
 //
 // Given: star, any; angles in µas, motions in µas a year.
 // Returned: whether it is refused.
-// Rule: 01, "Refusal numbers", 5.
+// Rule: docs/RULES.md, "Refusal numbers", 5.
 pub fn star_refused(star: Star) -> bool
     ensures { λ r. ⌜ r ≡ starRefused star ⌝ }
 {
@@ -25,7 +29,7 @@ pub fn star_refused(star: Star) -> bool
 //
 // Given: right ascension and declination in µas, their motions in µas a year, any.
 // Returned: whether the star is refused.
-// Rule: 01, "Refusal numbers", 5.
+// Rule: docs/RULES.md, "Refusal numbers", 5.
 pub fn numbers_refused(ra: i64, declination: i64, ra_motion: i64, declination_motion: i64) -> bool
     ensures { λ r. ⌜ r ≡ starRefused (starOf ra declination «ra_motion» «declination_motion») ⌝ }
 {
@@ -39,4 +43,18 @@ pub fn numbers_refused(ra: i64, declination: i64, ra_motion: i64, declination_mo
         return true;
     }
     !whole::is_between(-100000000, 100000000, declination_motion)
+}
+
+// Refusal 6: the ranges of a site.
+//
+// Given: site, any; latitude and longitude in µas.
+// Returned: whether it is refused.
+// Rule: docs/RULES.md, "Refusal numbers", 6.
+pub fn site_refused(site: Site) -> bool
+    ensures { λ r. ⌜ r ≡ siteRefused site ⌝ }
+{
+    if !whole::is_between(-QUARTER, QUARTER, site.latitude) {
+        return true;
+    }
+    !whole::is_between(-HALF, HALF, site.longitude)
 }

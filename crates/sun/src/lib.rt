@@ -2,9 +2,9 @@
 
 use arguments::sun_of;
 use circle::pair;
+use polynomials::instant_refused;
 use polynomials::linear;
 use polynomials::quadratic;
-use polynomials::refused_instant;
 use rounding::rnd_quotient;
 use rules::Angle;
 use rules::Refusal;
@@ -19,7 +19,7 @@ ghost use Rattle.laws.specs.Instant.{InRange};
 //
 // Given: t, TT, from -Q to Q.
 // Returned: µas, not reduced by C.
-// Rule: 01, "Polynomials in time".
+// Rule: docs/RULES.md, "Polynomials in time".
 pub fn sun_longitude_of(t: Tt) -> i64
     requires { ⌜ InRange (t .0) ⌝ }
     ensures { λ r. ⌜ r ≡ sunLongitude t ⌝ }
@@ -31,7 +31,7 @@ pub fn sun_longitude_of(t: Tt) -> i64
 //
 // Given: t, TT, from -Q to Q.
 // Returned: µas, not reduced by C.
-// Rule: 01, "Polynomials in time".
+// Rule: docs/RULES.md, "Polynomials in time" (source 000 misprints a minus before 0.0003032).
 pub fn mean_longitude_of(t: Tt) -> i64
     requires { ⌜ InRange (t .0) ⌝ }
     ensures { λ r. ⌜ r ≡ meanLongitude t ⌝ }
@@ -39,7 +39,7 @@ pub fn mean_longitude_of(t: Tt) -> i64
     quadratic(t.0, 1009679256000, 129602771388000, 1091520)
 }
 
-// The centre: the three products are summed and rounded once.
+// The centre (source 000, equation 7.3): the three products are summed and rounded once.
 fn centre_of(t: Tt) -> i64
     requires { ⌜ InRange (t .0) ⌝ }
     ensures { λ r. ⌜ r ≡ centre t ⌝ }
@@ -62,11 +62,11 @@ fn sine(a: i64) -> i64
 //
 // Given: t, TT, any.
 // Returned: µas, not reduced by C, or refusal 12.
-// Rule: 01, "Polynomials in time".
+// Rule: docs/RULES.md, "Polynomials in time".
 pub fn sun_longitude(t: Tt) -> Angle
     ensures { λ r. ⌜ r ≡ sunLongitudeAt t ⌝ }
 {
-    if refused_instant(t.0) {
+    if instant_refused(t.0) {
         return Angle::Refused(Refusal::Instant);
     }
     Angle::Of(sun_longitude_of(t))

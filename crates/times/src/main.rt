@@ -1,6 +1,6 @@
-// The program `times`, document 01, "Dates": reads lines to the end of standard input, and prints a
-// header, then for each line the day number, UT and TT, or the refusal. A last line without its end
-// counts.
+// The program `times`, docs/RULES.md, "Dates": reads lines to the end of standard input, and prints
+// a header, then for each line the day number, UT and TT, or the refusal. A last line without its
+// end counts.
 //
 // What is printed for what is read is proved of `line_reads`; here it is read, answered and handed
 // out. An argument, an input that cannot be read and an output that cannot be written each get a
@@ -53,9 +53,9 @@ fn read_some(start: Start, out: &mut [u8; 65536]) -> Turn
         return Turn { start, more: false };
     }
     let count = io::count(got, &input);
-    let step = answer_read(start, &input, count, out);
-    let next = step.start;
-    if !hand_out(out, step.written) {
+    let after = answer_read(start, &input, count, out);
+    let next = after.start;
+    if !hand_out(out, after.written) {
         return Turn {
             start: next,
             more: false,

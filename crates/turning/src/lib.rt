@@ -14,7 +14,7 @@ ghost use Rattle.axes.specs.Given.{TurnFits};
 //
 // Given: v and p, accepted; axis 1 or 2, and any other number for 3.
 // Returned: an accepted direction.
-// Rule: 01, "Turns, readings, place".
+// Rule: docs/RULES.md, "Turns, readings, place".
 pub fn turn_by(v: Direction, axis: i64, p: Pair) -> Direction
     requires { ⌜ TurnFits v p ⌝ }
     ensures { λ r. ⌜ r ≡ turnBy axis p v ⌝ }
@@ -26,7 +26,7 @@ pub fn turn_by(v: Direction, axis: i64, p: Pair) -> Direction
 //
 // Given: v, axis and angle (in µas), any.
 // Returned: an accepted direction; refused 7 where v is not accepted, 8 where axis or angle is not.
-// Rule: 01, "Turns, readings, place".
+// Rule: docs/RULES.md, "Turns, readings, place".
 //
 // Refusal 13 never comes: the length of what is turned is within 5 of 2^30.
 pub fn turn(v: Direction, axis: i64, angle: i64) -> Turned

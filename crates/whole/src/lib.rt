@@ -12,7 +12,7 @@ ghost use Rattle.rules.specs.Rounding.{modulo};
 //
 // Given: a, any; d, above nought.
 // Returned: from 0 to d - 1.
-// Rule: 01, "modulo C", "modulo 86,400,000".
+// Rule: docs/RULES.md, "Numbers, angles, instants" and "Polynomials in time".
 pub fn modulo_of(a: i64, d: i64) -> i64
     requires { ⌜ pos 0 <ℤ d ⌝ }
     ensures { λ r. ⌜ r ≡ pos (modulo a (natAbs d)) ⌝ }
@@ -25,7 +25,7 @@ pub fn modulo_of(a: i64, d: i64) -> i64
 //
 // Given: a, any, in µas.
 // Returned: from 0 to C - 1.
-// Rule: 01, "Reduce modulo C".
+// Rule: docs/RULES.md, "Sine and cosine".
 pub fn on_circle(a: i64) -> i64
     ensures { λ r. ⌜ r ≡ pos (modulo a circle) ⌝ }
 {
@@ -35,7 +35,7 @@ pub fn on_circle(a: i64) -> i64
 // Whether z lies from low to high, both ends included.
 //
 // Given: any three numbers.
-// Rule: 01, "not within", "not 1 to 3" and the like: every range of the refusals.
+// Rule: docs/RULES.md, "Refusal numbers": every range of the refusals.
 pub fn is_between(low: i64, high: i64, z: i64) -> bool
     ensures { λ r. ⌜ r ≡ between low high z ⌝ }
 {

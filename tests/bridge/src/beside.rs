@@ -20,8 +20,8 @@ pub fn place(given: [i64; 14]) -> [i64; 5] {
     words(placed.map(|place| vec![place.right_ascension, place.declination, place.azimuth, place.altitude]))
 }
 
-fn moment_of([year, month, day, hour, minute, second, ms, difference]: [Whole; 8]) -> Moment {
-    Moment { date: Date { year, month, day }, hour, minute, second, ms, difference }
+fn moment_of([year, month, day, hour, minute, second, ms, ut1_minus_utc]: [Whole; 8]) -> Moment {
+    Moment { date: Date { year, month, day }, hour, minute, second, ms, ut1_minus_utc }
 }
 
 pub fn turn(given: [i64; 5]) -> [i64; 4] {

@@ -1,4 +1,4 @@
-//! Entries of a list as C has them, `struct inner_entry` of `tests/c/inner.h`, and entries to try.
+//! Entries of a list as C has them, `struct tests_entry` of `tests/c/tests_exports.h`, and entries to try.
 
 use second::place::{Place, Star};
 use second::star_list::{record_of, star_of, Entry, RECORD};

@@ -1,5 +1,5 @@
-//! Every exported function that the tests call, by subject; `tests/exports` says which stand. Nothing checks these
-//! declarations against the Rattle source: `tests/c/driver.c` and the headers that it includes say the same in C.
+//! Every exported function that the tests call, by subject; `tests/exports` says which stand. `tests/c/driver.c` and the
+//! headers that it includes say the same in C, and `tools/exports.py` holds all of them to the Rattle source.
 
 #[cfg(linked)]
 use crate::entries::ENTRY;
@@ -10,19 +10,19 @@ use crate::function::{exported, Function, Room};
 #[cfg(exported = "whole")]
 exported! {
     /// Rnd(a / b).
-    RND_QUOTIENT = inner_rnd_quotient(a: i64, b: i64) -> (met, value);
+    RND_QUOTIENT = tests_rnd_quotient(a: i64, b: i64) -> (met, value);
     /// Rnd(a b / d), the product carried in parts.
-    RND_PRODUCT_QUOTIENT = inner_rnd_product_quotient(a: i64, b: i64, d: i64) -> (met, value);
+    RND_PRODUCT_QUOTIENT = tests_rnd_product_quotient(a: i64, b: i64, d: i64) -> (met, value);
     /// The whole root, downward.
-    WHOLE_ROOT = inner_whole_root(n: i64) -> (met, value);
+    WHOLE_ROOT = tests_whole_root(n: i64) -> (met, value);
     /// a modulo C.
-    ON_CIRCLE = inner_on_circle(a: i64) -> (met, value);
+    ON_CIRCLE = tests_on_circle(a: i64) -> (met, value);
 }
 
 #[cfg(exported = "circle")]
 exported! {
     /// Cosine and sine of any angle.
-    PAIR = inner_pair(angle: i64) -> (cosine, sine);
+    PAIR = tests_pair(angle: i64) -> (cosine, sine);
 }
 
 #[cfg(exported = "turning")]
@@ -40,31 +40,36 @@ exported! {
 #[cfg(exported = "dates")]
 exported! {
     /// The number of a day.
-    DAY_OF = inner_day_of(year: i32, month: i32, day: i32) -> (refused, day);
+    DAY_OF = tests_day_of(year: i32, month: i32, day: i32) -> (refused, day);
     /// The date of a day's number.
-    DATE_OF = inner_date_of(day: i64) -> (refused, year, month, day);
+    DATE_OF = tests_date_of(day: i64) -> (refused, year, month, day);
     /// UT and TT of a UTC date and time.
-    INSTANTS = inner_instants(
-        year: i32, month: i32, day: i32, hour: i32, minute: i32, second: i32, ms: i32, difference: i32
+    INSTANTS = tests_instants(
+        year: i32, month: i32, day: i32, hour: i32, minute: i32, second: i32, ms: i32, ut1_minus_utc: i32
     ) -> (refused, ut, tt);
 }
 
 /// What `times` prints for a line, put into the room without its LF; the answer is its length.
 #[cfg(exported = "dates")]
 pub const TIMES_LINE: Function<0, 1> = Function {
-    name: "inner_times_line",
+    name: "tests_times_line",
     given: [],
     answered: ["length"],
     room: Room::Bytes,
     #[cfg(linked)]
     linked: |call| {
         extern "C" {
-            fn inner_times_line(line: *const u8, line_len: usize, out: *mut u8, out_len: usize) -> Words<1>;
+            fn tests_times_line(
+                line: *const u8,
+                line_length: usize,
+                out: *mut u8,
+                out_length: usize,
+            ) -> Words<1>;
         }
         let line = &call.read;
         lend(&mut call.room, |out, length| {
             // Safety: `tests/exports` says that the archive has it; each pointer goes with its own length.
-            unsafe { inner_times_line(line.as_ptr(), line.len(), out, length) }.0
+            unsafe { tests_times_line(line.as_ptr(), line.len(), out, length) }.0
         })
     },
 };
@@ -72,37 +77,37 @@ pub const TIMES_LINE: Function<0, 1> = Function {
 #[cfg(exported = "earth")]
 exported! {
     /// The three precession angles at a TT instant.
-    PRECESSION = inner_precession(tt: i64) -> (refused, zeta, z, theta);
+    PRECESSION = tests_precession(tt: i64) -> (refused, zeta, z, theta);
     /// The mean obliquity.
-    OBLIQUITY = inner_obliquity(tt: i64) -> (refused, angle);
+    OBLIQUITY = tests_obliquity(tt: i64) -> (refused, angle);
     /// The arguments l, l′, F, D, Ω.
-    ARGUMENTS = inner_arguments(tt: i64) -> (refused, l, l1, f, d, om);
+    ARGUMENTS = tests_arguments(tt: i64) -> (refused, l, l1, f, d, om);
     /// Δψ and Δε.
-    NUTATION = inner_nutation(tt: i64) -> (refused, longitude, obliquity);
+    NUTATION = tests_nutation(tt: i64) -> (refused, longitude, obliquity);
     /// The Sun's longitude.
-    SUN = inner_sun(tt: i64) -> (refused, angle);
+    SUN = tests_sun(tt: i64) -> (refused, angle);
     /// The Sun's mean longitude.
-    MEAN_LONGITUDE = inner_mean_longitude(tt: i64) -> (refused, angle);
+    MEAN_LONGITUDE = tests_mean_longitude(tt: i64) -> (refused, angle);
     /// bx and by of the aberration, and the three numbers that it adds.
-    ABERRATION = inner_aberration(tt: i64) -> (refused, bx, by, x, y, z);
+    ABERRATION = tests_aberration(tt: i64) -> (refused, bx, by, x, y, z);
     /// The sidereal angle at a UT instant.
-    SIDEREAL = inner_sidereal(ut: i64) -> (refused, angle);
+    SIDEREAL = tests_sidereal(ut: i64) -> (refused, angle);
     /// The sidereal polynomial alone.
-    SIDEREAL_POLYNOMIAL = inner_sidereal_polynomial(ut: i64) -> (refused, angle);
+    SIDEREAL_POLYNOMIAL = tests_sidereal_polynomial(ut: i64) -> (refused, angle);
 }
 
 #[cfg(exported = "place")]
 exported! {
     /// The place of a star at a UTC date and time, over a site.
     PLACE = turbelicus_place(
-        year: i32, month: i32, day: i32, hour: i32, minute: i32, second: i32, ms: i32, difference: i32,
+        year: i32, month: i32, day: i32, hour: i32, minute: i32, second: i32, ms: i32, ut1_minus_utc: i32,
         latitude: i64, longitude: i64,
         ra: i64, declination: i64, ra_motion: i32, declination_motion: i32
     ) -> (refused, ra, declination, azimuth, altitude);
 }
 
 /// The number of records of a list file.
-#[cfg(exported = "star_list")]
+#[cfg(exported = "list_file")]
 pub const LIST_COUNT: Function<0, 2> = Function {
     name: "turbelicus_list_count",
     given: [],
@@ -120,7 +125,7 @@ pub const LIST_COUNT: Function<0, 2> = Function {
 };
 
 /// A star of a list file; its two motions, of 32 bits each, are one word.
-#[cfg(exported = "star_list")]
+#[cfg(exported = "list_file")]
 pub const LIST_STAR: Function<1, 4> = Function {
     name: "turbelicus_list_star",
     given: ["index"],
@@ -138,7 +143,7 @@ pub const LIST_STAR: Function<1, 4> = Function {
 };
 
 /// The list file of numbers, which are read as words, written to the room.
-#[cfg(exported = "star_list")]
+#[cfg(exported = "list_file")]
 pub const LIST_WRITE: Function<0, 2> = Function {
     name: "turbelicus_list_write",
     given: [],
@@ -167,14 +172,14 @@ pub const LIST_WRITE: Function<0, 2> = Function {
 /// A list file read into the entries of the room.
 #[cfg(exported = "entries")]
 pub const READ_LIST: Function<0, 2> = Function {
-    name: "inner_list_read",
+    name: "tests_list_read",
     given: [],
     answered: ["refused", "count"],
     room: Room::Entries,
     #[cfg(linked)]
     linked: |call| {
         extern "C" {
-            fn inner_list_read(
+            fn tests_list_read(
                 file: *const u8,
                 file_length: usize,
                 entries: *mut u8,
@@ -184,7 +189,7 @@ pub const READ_LIST: Function<0, 2> = Function {
         let file = &call.read;
         lend(&mut call.room, |entries, length| {
             // Safety: `tests/exports` says that the archive has it; each pointer goes with its own length.
-            unsafe { inner_list_read(file.as_ptr(), file.len(), entries, length / ENTRY) }.0
+            unsafe { tests_list_read(file.as_ptr(), file.len(), entries, length / ENTRY) }.0
         })
     },
 };
@@ -192,14 +197,14 @@ pub const READ_LIST: Function<0, 2> = Function {
 /// The list file of entries, which are read, written to the room.
 #[cfg(exported = "entries")]
 pub const WRITE_LIST: Function<0, 2> = Function {
-    name: "inner_list_write",
+    name: "tests_list_write",
     given: [],
     answered: ["refused", "count"],
     room: Room::Bytes,
     #[cfg(linked)]
     linked: |call| {
         extern "C" {
-            fn inner_list_write(
+            fn tests_list_write(
                 entries: *const u8,
                 entries_length: usize,
                 room: *mut u8,
@@ -211,7 +216,7 @@ pub const WRITE_LIST: Function<0, 2> = Function {
         lend(&mut call.read, |entries, _| {
             lend(&mut call.room, |room, length| {
                 // Safety: `tests/exports` says that the archive has it; each pointer goes with its own length.
-                unsafe { inner_list_write(entries, length_read, room, length) }.0
+                unsafe { tests_list_write(entries, length_read, room, length) }.0
             })
         })
     },
@@ -220,14 +225,25 @@ pub const WRITE_LIST: Function<0, 2> = Function {
 /// The entries of the room worked at a UTC date and time, over a site.
 #[cfg(exported = "night_list")]
 pub const NIGHT_LIST: Function<10, 2> = Function {
-    name: "inner_night_list",
-    given: ["year", "month", "day", "hour", "minute", "second", "ms", "difference", "latitude", "longitude"],
+    name: "tests_night_list",
+    given: [
+        "year",
+        "month",
+        "day",
+        "hour",
+        "minute",
+        "second",
+        "ms",
+        "ut1_minus_utc",
+        "latitude",
+        "longitude",
+    ],
     answered: ["refused", "count"],
     room: Room::Entries,
     #[cfg(linked)]
     linked: |call| {
         extern "C" {
-            fn inner_night_list(
+            fn tests_night_list(
                 year: i32,
                 month: i32,
                 day: i32,
@@ -235,7 +251,7 @@ pub const NIGHT_LIST: Function<10, 2> = Function {
                 minute: i32,
                 second: i32,
                 ms: i32,
-                difference: i32,
+                ut1_minus_utc: i32,
                 latitude: i64,
                 longitude: i64,
                 entries: *mut u8,
@@ -243,12 +259,12 @@ pub const NIGHT_LIST: Function<10, 2> = Function {
             ) -> Words<2>;
         }
         let [moment @ .., latitude, longitude] = call.given;
-        let [year, month, day, hour, minute, second, ms, difference] =
+        let [year, month, day, hour, minute, second, ms, ut1_minus_utc] =
             moment.map(|part: i64| i32::try_from(part).expect("a number of the C type"));
         lend(&mut call.room, |entries, length| {
             // Safety: `tests/exports` says that the archive has it; the pointer goes with its length.
             unsafe {
-                inner_night_list(
+                tests_night_list(
                     year,
                     month,
                     day,
@@ -256,7 +272,7 @@ pub const NIGHT_LIST: Function<10, 2> = Function {
                     minute,
                     second,
                     ms,
-                    difference,
+                    ut1_minus_utc,
                     latitude,
                     longitude,
                     entries,

@@ -4,9 +4,7 @@
 //! the calls go in batches to a C program under the kit's emulator, `tests/c/driver.c`. `TURBELICUS_FACE=driver` takes
 //! that way on x86-64 too. `TURBELICUS_SEED` gives the random calls another seed.
 //!
-//! To add an exported function: a line in `face.rs` under its subject, the C declaration in the header that `driver.c`
-//! includes, a row in the driver's table, and its comparison in `tests/SUBJECT.rs`. To switch on a subject whose functions
-//! an archive exports by now: name it in `tests/exports`.
+//! `tests/README.md` says how an exported function is added.
 
 pub mod beside;
 pub mod chance;

@@ -26,9 +26,9 @@ fn date_of([day]: [i64; 1]) -> [i64; 4] {
 }
 
 fn instants(given: [i64; 8]) -> [i64; 3] {
-    let [year, month, day, hour, minute, second, ms, difference] = given.map(Whole::from);
+    let [year, month, day, hour, minute, second, ms, ut1_minus_utc] = given.map(Whole::from);
     let instants =
-        dates::instants(Moment { date: Date { year, month, day }, hour, minute, second, ms, difference });
+        dates::instants(Moment { date: Date { year, month, day }, hour, minute, second, ms, ut1_minus_utc });
     words(instants.map(|(_, Ut(ut), Tt(tt))| vec![ut, tt]))
 }
 
@@ -77,7 +77,7 @@ fn every_day() {
 fn both_sides_of_every_step() {
     let milliseconds = |[year, month, day, hour, minute, second]: [i64; 6]| {
         (-1..=1000).flat_map(move |ms| {
-            [-900, 0, 900].map(|difference| [year, month, day, hour, minute, second, ms, difference])
+            [-900, 0, 900].map(|ut1_minus_utc| [year, month, day, hour, minute, second, ms, ut1_minus_utc])
         })
     };
     let calls = about_every_step().into_iter().flat_map(milliseconds);
@@ -115,17 +115,17 @@ fn order_of_refusals() {
 
 /// A line of the form, from parts that are printed even where they are in no range.
 fn line(chance: &mut Chance) -> Vec<u8> {
-    let [year, month, day, hour, minute, second, ms, difference] = moment(chance);
+    let [year, month, day, hour, minute, second, ms, ut1_minus_utc] = moment(chance);
     let digits = |number: i64, most: i64| number.rem_euclid(most + 1);
     let (year, month, day) = (digits(year, 9999), digits(month, 99), digits(day, 99));
     let (hour, minute, second) = (digits(hour, 99), digits(minute, 99), digits(second, 99));
-    let (ms, difference) = (digits(ms, 999), difference % 10_000);
+    let (ms, ut1_minus_utc) = (digits(ms, 999), ut1_minus_utc % 10_000);
     let mut text = format!("{year:04}-{month:02}-{day:02} {hour:02}:{minute:02}:{second:02}.{ms:03} ");
-    if difference < 0 || chance.once_in(100) {
+    if ut1_minus_utc < 0 || chance.once_in(100) {
         text.push('-');
     }
     let width = chance.within(1, 4) as usize;
-    text += &format!("{:0width$}", difference.abs());
+    text += &format!("{:0width$}", ut1_minus_utc.abs());
     text.into_bytes()
 }
 

@@ -1,5 +1,5 @@
-//! The list file read into entries and written from them: `star_list` over lent entries beside `star_list.rs`. The bridge
-//! lends all entries and rooms between guards, and every entry and byte is compared.
+//! The list file read into entries and written from them: `entries_read` and `entries_write` beside `star_list.rs` of the
+//! second program. The bridge lends all entries and rooms between guards, and every entry and byte is compared.
 #![cfg(exported = "entries")]
 
 use bridge::beside::{read_list, write_list};
@@ -12,7 +12,7 @@ use bridge::files::{
     truncations,
 };
 use bridge::function::Call;
-use second::star_list::{file_length, Entry, FOUR_NOUGHTS, HEAD};
+use second::star_list::{file_length, Entry, FOUR_NOUGHTS, HEAD, MOST_ENTRIES};
 
 const RANDOM: usize = 10_000;
 
@@ -36,10 +36,10 @@ fn about(number: usize) -> impl Iterator<Item = usize> {
 fn files_of_every_count_read() {
     let mut chance = Chance::new("files_of_every_count_read");
     let mut calls = Vec::new();
-    for count in 0..=65 {
+    for count in 0..=MOST_ENTRIES as i64 + 1 {
         let whole = accepted_file(&mut chance, count);
         for read in lengths(&whole) {
-            let rooms = about(count as usize).chain([0, 64, 65, 70]);
+            let rooms = about(count as usize).chain([0, MOST_ENTRIES, MOST_ENTRIES + 1, MOST_ENTRIES + 6]);
             calls.extend(rooms.map(|room| reading(&mut chance, read.clone(), room)));
         }
     }
@@ -55,9 +55,11 @@ fn files_of_every_count_read() {
 fn damaged_files_read() {
     let mut chance = Chance::new("damaged_files_read");
     let three = accepted_file(&mut chance, 3);
-    let most = accepted_file(&mut chance, 64);
-    let cut: Vec<_> =
-        truncations(&three).chain(truncations(&most)).map(|read| reading(&mut chance, read, 65)).collect();
+    let most = accepted_file(&mut chance, MOST_ENTRIES as i64);
+    let cut: Vec<_> = truncations(&three)
+        .chain(truncations(&most))
+        .map(|read| reading(&mut chance, read, MOST_ENTRIES + 1))
+        .collect();
     compare_lent(&READ_LIST, "every truncation of 3 and of 64 records", cut, read_list);
 
     for room in about(3) {
@@ -122,7 +124,7 @@ fn lists_of_every_count_written() {
 fn refused_stars_written() {
     let mut chance = Chance::new("refused_stars_written");
     let mut calls = Vec::new();
-    for count in [1, 3, 64, 65] {
+    for count in [1, 3, MOST_ENTRIES, MOST_ENTRIES + 1] {
         for at in 0..count {
             for refused in refused_stars() {
                 let mut entries = entries(&mut chance, count);
@@ -154,7 +156,7 @@ fn refused_stars_written() {
 #[test]
 fn there_and_back() {
     let mut chance = Chance::new("there_and_back");
-    for count in 0..=64 {
+    for count in 0..=MOST_ENTRIES {
         let file = accepted_file(&mut chance, count as i64);
         let mut read = [reading(&mut chance, file.clone(), count)];
         assert_eq!(READ_LIST.answers(&mut read), [[0, count as i64]]);

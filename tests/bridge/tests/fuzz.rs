@@ -1,6 +1,6 @@
 //! Every function of the module over extremes, mutations and noise: none crashes, none writes past its room or on a
 //! refusal, and every answer is the second program's. The bridge lends each room between guards.
-#![cfg(all(exported = "place", exported = "turning", exported = "reading", exported = "star_list"))]
+#![cfg(all(exported = "place", exported = "turning", exported = "reading", exported = "list_file"))]
 
 use bridge::beside::{angle, list_count, list_star, list_write, place, turn};
 use bridge::chance::Chance;
@@ -8,7 +8,7 @@ use bridge::compare::{compare, compare_lent};
 use bridge::face::{LIST_COUNT, LIST_STAR, LIST_WRITE, PLACE, READING, TURN};
 use bridge::files::{bytes_of, damage, file, star, STAR_RANGES};
 use bridge::function::Call;
-use second::star_list::{HEAD, RECORD};
+use second::star_list::{HEAD, MOST_ENTRIES, RECORD};
 use second::units::{CIRCLE, HALF_CIRCLE, QUARTER};
 
 /// In all more than 1,000,000 calls.
@@ -147,7 +147,11 @@ fn files() {
 
     let mut chance = Chance::new("fuzz, stars");
     let calls = (0..FILES).map(|_| {
-        let index = if chance.once_in(4) { extreme(&mut chance, false) } else { chance.within(0, 65) };
+        let index = if chance.once_in(4) {
+            extreme(&mut chance, false)
+        } else {
+            chance.within(0, MOST_ENTRIES as i64 + 1)
+        };
         Call { given: [index], read: fuzzed_file(&mut chance), room: Vec::new() }
     });
     compare_lent(&LIST_STAR, "fuzz", calls, list_star);

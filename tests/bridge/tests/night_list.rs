@@ -10,7 +10,7 @@ use bridge::face::NIGHT_LIST;
 use bridge::files::{count, refused_stars, star};
 use bridge::function::Call;
 use bridge::ranges::RANGES;
-use second::star_list::Entry;
+use second::star_list::{Entry, MOST_ENTRIES};
 use second::units::QUARTER;
 
 const RANDOM: usize = 2_000;
@@ -39,14 +39,14 @@ fn lists_of_every_count() {
     compare_lent(&NIGHT_LIST, "0 to 66 entries", lists, night_list);
 }
 
-/// Document 01, "Cases": 65 entries refused 11; and 64 are not.
+/// docs/RULES.md, "Cases": 65 entries refused 11; and 64 are not.
 #[test]
 fn at_most_64_entries() {
     let mut chance = Chance::new("at_most_64_entries");
     let given = given(&mut chance);
-    let mut lists = [64, 65].map(|count| list(given, &entries(&mut chance, count)));
+    let mut lists = [MOST_ENTRIES, MOST_ENTRIES + 1].map(|count| list(given, &entries(&mut chance, count)));
     let before = lists[1].clone();
-    assert_eq!(NIGHT_LIST.answers(&mut lists), [[0, 64], [11, 0]]);
+    assert_eq!(NIGHT_LIST.answers(&mut lists), [[0, MOST_ENTRIES as i64], [11, 0]]);
     assert_eq!(lists[1], before);
 }
 
@@ -61,7 +61,7 @@ fn one_star_refused() {
         list(given(&mut chance), &entries)
     };
     let mut lists = Vec::new();
-    for count in [3, 64] {
+    for count in [3, MOST_ENTRIES] {
         for at in 0..count {
             lists.extend((0..kinds.len()).map(|kind| with(count, at, kind)));
         }
@@ -69,7 +69,7 @@ fn one_star_refused() {
     compare_lent(&NIGHT_LIST, "each kind of refused star at each place of 3 and of 64", lists, night_list);
 
     let mut lists = Vec::new();
-    for count in 1..=65 {
+    for count in 1..=MOST_ENTRIES + 1 {
         lists.extend((0..count).map(|at| with(count, at, (count + at) % kinds.len())));
     }
     compare_lent(&NIGHT_LIST, "a refused star at each place of 1 to 65", lists, night_list);
@@ -80,7 +80,7 @@ fn one_star_refused() {
 fn several_stars_refused() {
     let mut chance = Chance::new("several_stars_refused");
     let kinds = refused_stars();
-    let choices = (0..1u64 << 5).map(|choice| (5, choice)).chain([(64, u64::MAX)]);
+    let choices = (0..1u64 << 5).map(|choice| (5, choice)).chain([(MOST_ENTRIES, u64::MAX)]);
     let lists = choices.map(|(count, choice)| {
         let mut entries = entries(&mut chance, count);
         for at in (0..count).filter(|at| choice >> at & 1 == 1) {
@@ -110,7 +110,7 @@ fn checked_in_order() {
             refused = *number;
         }
         for star_refused in [false, true] {
-            let mut entries = entries(&mut chance, if fault(5) { 65 } else { 2 });
+            let mut entries = entries(&mut chance, if fault(5) { MOST_ENTRIES + 1 } else { 2 });
             if star_refused {
                 entries[1] = entry(&mut chance, refused_stars()[0]);
             }

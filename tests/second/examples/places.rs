@@ -44,8 +44,8 @@ fn answer(file: &[u8], line: &[u8]) -> Result<Vec<Entry>, i64> {
 /// A line of `times`, a space, the latitude, a space, the longitude.
 fn asked(line: &[u8]) -> Option<(Moment, Site)> {
     let words: Vec<&[u8]> = line.split(|byte| *byte == b' ').collect();
-    let [date, time, difference, latitude, longitude] = words.as_slice() else { return None };
-    let moment = moment_of_line(&[*date, *time, *difference].join(&b' '))?;
+    let [date, time, ut1_minus_utc, latitude, longitude] = words.as_slice() else { return None };
+    let moment = moment_of_line(&[*date, *time, *ut1_minus_utc].join(&b' '))?;
     Some((moment, Site { latitude: angle(latitude)?, longitude: angle(longitude)? }))
 }
 

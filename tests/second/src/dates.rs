@@ -27,7 +27,7 @@ pub struct Moment {
     pub minute: Whole,
     pub second: Whole,
     pub ms: Whole,
-    pub difference: Whole,
+    pub ut1_minus_utc: Whole,
 }
 
 const FIRST_YEAR: Whole = 1972;
@@ -129,12 +129,12 @@ fn time_exists(moment: Moment, day: Whole) -> bool {
 pub fn instants(moment: Moment) -> Result<(Whole, Ut, Tt), Refusal> {
     let day = day_of(moment.date)?;
     unless(time_exists(moment, day), refusals::TIME)?;
-    unless((-900..=900).contains(&moment.difference), refusals::UT1)?;
+    unless((-900..=900).contains(&moment.ut1_minus_utc), refusals::UT1_MINUS_UTC)?;
 
     let ms_of_day = ((moment.hour * 60 + moment.minute) * 60 + moment.second) * 1000 + moment.ms;
     let utc = day * DAY + ms_of_day - DAY / 2;
     // UT = day × 86,400,000 + ms of day − 43,200,000 + (UT1−UTC).
-    let ut = Ut(utc + moment.difference);
+    let ut = Ut(utc + moment.ut1_minus_utc);
     // TT = the same without the last term, plus 32,184 + 1000 × (TAI−UTC).
     let tt = Tt(utc + 32_184 + 1000 * tai_minus_utc(moment.date));
     Ok((day, ut, tt))
@@ -169,7 +169,7 @@ pub fn moment_of_line(line: &[u8]) -> Option<Moment> {
     if line.len() < FORM.len() {
         return None;
     }
-    let (head, difference) = line.split_at(FORM.len());
+    let (head, ut1_minus_utc) = line.split_at(FORM.len());
     let of_form = |(byte, form): (&u8, &u8)| match form {
         b'0' => byte.is_ascii_digit(),
         mark => byte == mark,
@@ -183,7 +183,7 @@ pub fn moment_of_line(line: &[u8]) -> Option<Moment> {
         minute: number(&head[14..16]),
         second: number(&head[17..19]),
         ms: number(&head[20..23]),
-        difference: difference_of(difference)?,
+        ut1_minus_utc: difference_of(ut1_minus_utc)?,
     })
 }
 

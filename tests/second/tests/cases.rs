@@ -104,7 +104,7 @@ fn run_only_refusals_of_lists() {
     let mut bytes = vec![7; file_length(65)];
     assert_eq!(write(&entries, &mut bytes), Err(ROOM));
     assert_eq!(bytes, vec![7; file_length(65)]);
-    let noon = Moment { date: date(2000, 1, 1), hour: 12, minute: 0, second: 0, ms: 0, difference: 0 };
+    let noon = Moment { date: date(2000, 1, 1), hour: 12, minute: 0, second: 0, ms: 0, ut1_minus_utc: 0 };
     let site = Site { latitude: 0, longitude: 0 };
     assert_eq!(night_list(noon, site, &mut entries), Err(ROOM));
     assert_eq!(entries, [ENTRY; 65]);
@@ -166,7 +166,7 @@ fn times_takes_only_the_exact_form() {
 #[test]
 fn tai_minus_utc_reaches_37_seconds() {
     let last =
-        Moment { date: date(2099, 12, 31), hour: 23, minute: 59, second: 59, ms: 999, difference: 900 };
+        Moment { date: date(2099, 12, 31), hour: 23, minute: 59, second: 59, ms: 999, ut1_minus_utc: 900 };
     let (day, Ut(ut), Tt(tt)) = instants(last).expect("the last moment of the span");
     assert_eq!(day, 36524);
     assert_eq!(tt - (ut - 900), 32_184 + 37_000);

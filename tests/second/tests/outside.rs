@@ -137,7 +137,7 @@ fn added_second_of_2016() {
         minute,
         second,
         ms: 0,
-        difference: 0,
+        ut1_minus_utc: 0,
     };
     let tt = |moment| instants(moment).unwrap().2 .0;
     let added = tt(moment(2016, 12, 31, 23, 59, 60));

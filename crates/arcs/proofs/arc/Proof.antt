@@ -1,9 +1,8 @@
 -- `arcs::arc` meets its contract.
-use Prim.Native.Nat.{_*_}
 use mathlib.Core.Path.{_∙_}
 use native.Mathlib.Omega.{arith}
 use lib.Dec.{lit≤}
-use lib.IntN.{pos, _*ℤ_}
+use lib.IntN.{pos}
 use borrow.Author.Needs.{needs}
 use Rattle.rules.specs.Units.{unit}
 use Rattle.rules.specs.Rounding.{rnd}
@@ -12,7 +11,8 @@ use Rattle.rules.specs.Reading as rule
 use Rattle.laws.specs.UpTo.{UpTo, upTo-le, upTo-of-le}
 use Rattle.laws.specs.Circle.{halfQuarterParts, square-range}
 use Rattle.laws.specs.Arc.{threeSevenths, arc-factor-range}
-use Rattle.words.specs.Holds.{Holds, bits, _*ʷ_, arg, got, mul, mul-ok}
+use Rattle.words.specs.Holds.{Holds, bits, arg, got}
+use Rattle.rounding.proofs.ByUnit.{product-fits, product-asked, product-rounded}
 use Rattle.arcs.proofs.arc.Statement.{statement}
 use Rattle.arcs.proofs.arc.Tie as tie
 
@@ -36,16 +36,11 @@ p-holds c =
     (upTo-le (rule.arcStages w rule.arcRow (rnd (pos unit) 23)) unit
     (arc-factor-range w (w-range (c .before .before)))) tt
 
-product-holds : (c : tie.After-arc-factor)
-    → Holds (bits (c .before .before .args .u) *ʷ bits (c .arc-factor .result))
-    (c .before .before .args .u
-    *ℤ rule.arcStages (squareParts (c .before .before .args .u)) rule.arcRow (rnd (pos unit) 23))
-    (threeSevenths * unit)
-product-holds c = mul (u-holds (c .before .before)) (p-holds c) tt
-
 returns : tie.Need-returns
 unfolding rule.arc
-returns c = search needs ∙ rw (product-holds (c .before) .value) at (c .rnd-by-unit .ensures)
+returns c =
+    search needs
+    ∙ product-rounded (u-holds (c .before .before .before)) (p-holds (c .before)) tt (c .rnd-by-unit .ensures)
 
 square-parts-requires : tie.Need-square-parts-requires
 square-parts-requires c κs = rw (u-holds c .value) (omega (arith, u-holds c .size))
@@ -54,10 +49,10 @@ arc-factor-requires : tie.Need-arc-factor-requires
 arc-factor-requires c κs = rw (w-holds c .value) (w-range (c .before))
 
 mul-rnd-by-unit : tie.Need-mul-rnd-by-unit
-mul-rnd-by-unit c = mul-ok (u-holds (c .before .before)) (p-holds c) tt
+mul-rnd-by-unit c = product-fits (u-holds (c .before .before)) (p-holds c) tt
 
 rnd-by-unit-requires : tie.Need-rnd-by-unit-requires
-rnd-by-unit-requires c κs = rw (product-holds c .value) (omega (arith, product-holds c .size))
+rnd-by-unit-requires c κs = product-asked (u-holds (c .before .before)) (p-holds c) tt
 
 pub arc-spec : {M : Type 1} → statement M
 arc-spec =

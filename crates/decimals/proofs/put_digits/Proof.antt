@@ -14,7 +14,7 @@ use borrow.Author.Needs.{needs}
 use Rattle.integers.specs.Quotient.{abs-quot}
 use Rattle.words.specs.Holds.{bits}
 use Rattle.words.specs.Fits.{quot-fits}
-use Rattle.laws.specs.Room.{written, written-step, written-end, written-is}
+use Rattle.laws.specs.PuttingBytes.{written, written-step, written-end, written-is}
 use Rattle.decimals.proofs.put_digits.Statement.{statement}
 use Rattle.decimals.proofs.put_digits.Tie as tie
 

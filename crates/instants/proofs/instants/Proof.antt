@@ -11,7 +11,7 @@ use Rattle.words.specs.Holds.{Holds, bits, widen, widened, widened-ok, got}
 use Rattle.rules.specs.declared.Moment.{Moment}
 use Rattle.rules.specs.Units.{between, within}
 use Rattle.rules.specs.Calendar.{yearRefused, dayRefused, dayNumber}
-use Rattle.rules.specs.Dates.{timeRefused, differenceRefused, msOfDay, utc, utOf, ttOf, instants}
+use Rattle.rules.specs.Dates.{timeRefused, ut1MinusUtcRefused, msOfDay, utc, utOf, ttOf, instants}
 use Rattle.laws.specs.DayNumbers.{RealDate, real-date, real-number-le}
 use Rattle.laws.specs.Instants.{RealMoment, real-moment, ms-of-day-le}
 use Rattle.instants.proofs.instants.Statement.{statement}
@@ -40,8 +40,8 @@ second32 s = search needs
 ms32 : (s : tie.Start) → SFits w32 (s .args .moment .time .ms)
 ms32 s = search needs
 
-difference32 : (s : tie.Start) → SFits w32 (s .args .moment .difference)
-difference32 s = search needs
+ut1-minus-utc32 : (s : tie.Start) → SFits w32 (s .args .moment .«ut1_minus_utc»)
+ut1-minus-utc32 s = search needs
 
 cast-year : tie.Need-cast-year
 cast-year c = widened-ok _ (year32 (c .before .before))
@@ -67,8 +67,8 @@ cast-ms : tie.Need-cast-ms
 cast-ms c = widened-ok _ (ms32 (c .before .before .before .before .before .before .before .before .before .before
     .before .before .before .before))
 
-cast-difference : tie.Need-cast-difference
-cast-difference c = widened-ok _ (difference32 (c .before .before .before .before .before .before .before .before
+cast-ut1-minus-utc : tie.Need-cast-ut1-minus-utc
+cast-ut1-minus-utc c = widened-ok _ (ut1-minus-utc32 (c .before .before .before .before .before .before .before .before
     .before .before .before .before .before .before .before .before))
 
 abbrev Told : Type 0
@@ -103,8 +103,8 @@ module _ (c : Told) where
   ms : Holds (widen (ofZ w32 (moment .time .ms))) (moment .time .ms) (2 ^ 31)
   ms = widened (moment .time .ms) (ms32 start)
 
-  difference : Holds (widen (ofZ w32 (moment .difference))) (moment .difference) (2 ^ 31)
-  difference = widened (moment .difference) (difference32 start)
+  «ut1_minus_utc» : Holds (widen (ofZ w32 (moment .«ut1_minus_utc»))) (moment .«ut1_minus_utc») (2 ^ 31)
+  «ut1_minus_utc» = widened (moment .«ut1_minus_utc») (ut1-minus-utc32 start)
 
 -- ---- refusal 1
 
@@ -184,21 +184,21 @@ returns-3 c =
 is-between-requires-2 : tie.Need-is-between-requires-2
 is-between-requires-2 c κs = search needs
 
-difference-test : (c : tie.After-is-between2) (b : Bool) → c .is-between2 .result ≡ b
+ut1-minus-utc-test : (c : tie.After-is-between2) (b : Bool) → c .is-between2 .result ≡ b
     → between (negℤ (pos 900)) (pos 900) (moment (c .before .before .before .before .before .before .before .before)
-    .difference) ≡ b
-difference-test c b e =
-    sym (rw (difference (c .before .before .before .before .before .before .before .before) .value) at
+    .«ut1_minus_utc») ≡ b
+ut1-minus-utc-test c b e =
+    sym (rw («ut1_minus_utc» (c .before .before .before .before .before .before .before .before) .value) at
     (c .is-between2 .ensures)) ∙ e
 
 returns-4 : tie.Need-returns-4
-unfolding instants differenceRefused within
+unfolding instants ut1MinusUtcRefused within
 returns-4 c =
     rw (
       year-accepted (c .before .before .before .before .before .before .before),
       day-accepted (c .before .before .before .before .before),
       time-test (c .before .before .before) false (c .before .before .if3 .left),
-      difference-test (c .before) false (not-true _ (c .if4 .taken)),
+      ut1-minus-utc-test (c .before) false (not-true _ (c .if4 .taken)),
     )
 
 -- ---- the instants
@@ -207,9 +207,9 @@ module _ (c : tie.Else4) where
   abbrev told : Told
   told = c .before .before .before .before .before .before .before .before .before
 
-  small : differenceRefused (moment told) ≡ false
-  unfolding differenceRefused within
-  small = rw (difference-test (c .before) true (not-false _ (c .if4 .left)))
+  small : ut1MinusUtcRefused (moment told) ≡ false
+  unfolding ut1MinusUtcRefused within
+  small = rw (ut1-minus-utc-test (c .before) true (not-false _ (c .if4 .left)))
 
   accepted : RealMoment (moment told)
   accepted =
@@ -237,8 +237,8 @@ number-at c = number (c .before .before .before .before)
 instants-at-requires : tie.Need-instants-at-requires
 instants-at-requires c κs =
     let s = c .before in
-    rw (number-at s .value, ms-on c .value, difference (told s) .value)
-    (record { day-le = number-at s .size; ms-le = ms-on c .size; difference-le = accepted s .difference })
+    rw (number-at s .value, ms-on c .value, «ut1_minus_utc» (told s) .value)
+    (record { day-le = number-at s .size; ms-le = ms-on c .size; ut1-minus-utc-le = accepted s .«ut1_minus_utc» })
 
 returns-5 : tie.Need-returns-5
 unfolding instants utOf ttOf utc
@@ -250,7 +250,7 @@ returns-5 c =
       time-test (s .before .before .before) false (s .before .before .if3 .left),
       small s,
     )
-    (rw (number-at s .value, ms-on (c .before) .value, difference (told s) .value) at (c .instants-at .ensures))
+    (rw (number-at s .value, ms-on (c .before) .value, «ut1_minus_utc» (told s) .value) at (c .instants-at .ensures))
 
 pub instants-spec : {M : Type 1} → statement M
 instants-spec =
@@ -263,7 +263,7 @@ instants-spec =
     cast-minute
     cast-second
     cast-ms
-    cast-difference
+    cast-ut1-minus-utc
     is-between-requires
     returns
     day-refused-requires

@@ -16,7 +16,7 @@ use Rattle.rules.specs.Length.{square, squares}
 use Rattle.rules.specs.Turning.{Accepted, directionRefused}
 use Rattle.laws.specs.Units.{within-le, within-of, between-of, between-parts}
 use Rattle.laws.specs.Directions.{accepted-parts}
-use Rattle.laws.specs.Turning.{accepted-test}
+use Rattle.laws.specs.Accepted.{accepted-test}
 use Rattle.words.specs.Fits.{held64}
 use Rattle.words.specs.Tests.{not-taken, not-left}
 use Rattle.length.proofs.accepted.Statement.{statement}

@@ -6,7 +6,7 @@ use native.Mathlib.Omega.{arith}
 use lib.ListN.{length, take, length-take}
 use lib.Seq.{length-take-le}
 use borrow.Author.Needs.{needs}
-use Rattle.laws.specs.Room.{overlaid-is}
+use Rattle.laws.specs.PuttingBytes.{overlaid-is}
 use Rattle.line_reads.specs.Reads.{lastAnswer, answersOf, startOfNext, answersTo, startAfterAll}
 use Rattle.line_reads.specs.Rooms.{take-min}
 use Rattle.line_reads.specs.Lengths.{last-le, answers-le}

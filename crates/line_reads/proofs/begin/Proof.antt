@@ -4,7 +4,7 @@ use Prim.Native.Nat.{_≤_}
 use native.Mathlib.Omega.{arith}
 use lib.ListN.{length}
 use borrow.Author.Needs.{needs}
-use Rattle.laws.specs.Room.{overlaid-is}
+use Rattle.laws.specs.PuttingBytes.{overlaid-is}
 use Rattle.line_reads.specs.Reads.{headerLine}
 use Rattle.line_reads.specs.Lengths.{header-le}
 use Rattle.line_reads.proofs.begin.Statement.{statement}

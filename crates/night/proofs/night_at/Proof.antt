@@ -20,7 +20,7 @@ use Rattle.rules.specs.Night.{aberration, localSidereal, night}
 use Rattle.laws.specs.Angles.{pair-sized, pair-opposite}
 use Rattle.laws.specs.Nutation.{ten-terms}
 use Rattle.laws.specs.Night.{site-ranges, obliquity-le}
-use Rattle.night_parts.specs.Parts.{opposite}
+use Rattle.night_pairs.specs.Parts.{opposite}
 use Rattle.night.proofs.night_at.Statement.{statement}
 use Rattle.night.proofs.night_at.Tie as tie
 

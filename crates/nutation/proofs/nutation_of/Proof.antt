@@ -18,9 +18,9 @@ use Rattle.rules.specs.Nutation.{terms, longitudeProduct, obliquityProduct, tot
 use Rattle.laws.specs.Instant.{InRange}
 use Rattle.laws.specs.Nutation.{longitude-product-le, obliquity-product-le, total-next, ten-terms}
 use Rattle.words.specs.Holds.{Holds, bits, _+ʷ_, got, lit, bounded, add-to, add-to-ok}
-use Rattle.nutation_terms.specs.Terms.{noTerm, termAt}
+use Rattle.nutation.specs.Terms.{noTerm, termCount, termAt}
 use Rattle.nutation.specs.Products.{productsOf}
-use Rattle.nutation_terms.specs.TermFits.{term-fits}
+use Rattle.nutation.specs.TermFits.{term-fits}
 use Rattle.nutation.proofs.nutation_of.Statement.{statement}
 use Rattle.nutation.proofs.nutation_of.Tie as tie
 
@@ -30,11 +30,11 @@ sumTo product k = total (map product (take k terms))
 
 abbrev Inv-loop : tie.InvT-loop
 Inv-loop t a longitude₀ obliquity₀ k₀ longitude obliquity k =
-    (k ≤ 10) × Holds longitude (sumTo (longitudeProduct t) k) (2 ^ 62)
+    (k ≤ termCount) × Holds longitude (sumTo (longitudeProduct t) k) (2 ^ 62)
     × Holds obliquity (sumTo (obliquityProduct t) k) (2 ^ 62)
 
 abbrev μ-loop : tie.MeasureT-loop
-μ-loop t a longitude₀ obliquity₀ k₀ longitude obliquity k = 10 - k
+μ-loop t a longitude₀ obliquity₀ k₀ longitude obliquity k = termCount - k
 
 abbrev AfterProducts : Type 0
 AfterProducts = tie.After-products Inv-loop μ-loop
@@ -53,7 +53,7 @@ instant c = c .before .before .args .t
 in-range : (c : AtLoop) → InRange (instant c .0)
 in-range c = c .before .before .pre
 
-passed : (c : AfterProducts) → loop-of c .loop .k < 10
+passed : (c : AfterProducts) → loop-of c .loop .k < termCount
 passed c = omega arith
 
 products-is : (c : AfterProducts) → c .products .result ≡ productsOf (instant (loop-of c)) (termAt (loop-of c .loop .k))
@@ -86,7 +86,7 @@ obliquity-one c =
     tt
 
 -- the sum with one product more
-next : (product : Term → ℤ) (k : ℕ) → k < 10 → sumTo product k +ℤ product (termAt k) ≡ sumTo product (k + 1)
+next : (product : Term → ℤ) (k : ℕ) → k < termCount → sumTo product k +ℤ product (termAt k) ≡ sumTo product (k + 1)
 next product k h = sym (total-next product terms k noTerm h) ∙ ap (sumTo product) (sym (add-one k))
 
 longitude-more : (c : AfterProducts)
@@ -171,7 +171,7 @@ returns : tie.Need-returns Inv-loop μ-loop
 unfolding nutation nutationBy
 returns c =
     let l = c .before .before .before in
-    let all : l .loop .k ≡ 10 = omega arith in
+    let all : l .loop .k ≡ termCount = omega arith in
     let longitude : toZ w64 (l .loop .longitude) ≡ total (map (longitudeProduct (instant l)) terms) =
     l .loop .inv .1 .value ∙ ap (sumTo (longitudeProduct (instant l))) all in
     let obliquity : toZ w64 (l .loop .obliquity) ≡ total (map (obliquityProduct (instant l)) terms) =

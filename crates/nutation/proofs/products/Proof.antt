@@ -16,7 +16,7 @@ use Rattle.rules.specs.Nutation.{termAngle, longitudeAmplitude, obliquityAmplit
 use Rattle.laws.specs.Polynomials.{polynomial-le}
 use Rattle.laws.specs.Angles.{pair-sized}
 use Rattle.words.specs.Holds.{Holds, bits, _*ʷ_, arg, got, mul, mul-ok}
-use Rattle.nutation_terms.specs.TermFits.{arguments-fit}
+use Rattle.nutation.specs.TermFits.{arguments-fit}
 use Rattle.polynomials.proofs.Held.{instant-held}
 use Rattle.nutation.proofs.products.Statement.{statement}
 use Rattle.nutation.proofs.products.Tie as tie

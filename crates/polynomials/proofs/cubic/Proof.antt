@@ -35,12 +35,12 @@ quadratic-held c = search needs ∙ simp held at (c .quadratic .ensures)
 quadratic-requires : tie.Need-quadratic-requires
 quadratic-requires c κs = simp held (rest-fits (c .pre))
 
-step-requires : tie.Need-step-requires
-step-requires c κs = simp (held, quadratic-held) (step-fits (c .before .pre))
+times-t-plus-requires : tie.Need-times-t-plus-requires
+times-t-plus-requires c κs = simp (held, quadratic-held) (step-fits (c .before .pre))
 
 returns : tie.Need-returns
 unfolding polynomial
-returns c = search needs ∙ simp (held, quadratic-held) at (c .step .ensures)
+returns c = search needs ∙ simp (held, quadratic-held) at (c .times-t-plus .ensures)
 
 pub cubic-spec : {M : Type 1} → statement M
-cubic-spec = tie.close (tie.spec quadratic-requires step-requires returns)
+cubic-spec = tie.close (tie.spec quadratic-requires times-t-plus-requires returns)

@@ -6,7 +6,7 @@ use lib.Dec.{lit<}
 use lib.IntN.{ℤ, _*ℤ_}
 use Rattle.rules.specs.Units.{century}
 use Rattle.rules.specs.Rounding.{rnd}
-use Rattle.rules.specs.Polynomials.{step, polynomial}
+use Rattle.rules.specs.Polynomials.{timesTPlus, polynomial}
 use Rattle.laws.specs.Rounding.{rnd-under}
 use Rattle.words.specs.Holds.{Holds, bits, _*ʷ_, arg, got, add, add-ok, mul, mul-ok}
 use Rattle.polynomials.proofs.linear.Statement.{statement}
@@ -43,7 +43,7 @@ add-result : tie.Need-add-result
 add-result c = add-ok (rounded-holds c) (c0-holds (c .before)) tt
 
 returns : tie.Need-returns
-unfolding polynomial step
+unfolding polynomial timesTPlus
 returns c = add (rounded-holds c) (c0-holds (c .before)) tt .value
 
 pub linear-spec : {M : Type 1} → statement M

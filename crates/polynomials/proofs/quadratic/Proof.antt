@@ -32,12 +32,12 @@ linear-held c = search needs ∙ simp held at (c .linear .ensures)
 linear-requires : tie.Need-linear-requires
 linear-requires c κs = simp held (rest-fits (c .pre))
 
-step-requires : tie.Need-step-requires
-step-requires c κs = simp (held, linear-held) (step-fits (c .before .pre))
+times-t-plus-requires : tie.Need-times-t-plus-requires
+times-t-plus-requires c κs = simp (held, linear-held) (step-fits (c .before .pre))
 
 returns : tie.Need-returns
 unfolding polynomial
-returns c = search needs ∙ simp (held, linear-held) at (c .step .ensures)
+returns c = search needs ∙ simp (held, linear-held) at (c .times-t-plus .ensures)
 
 pub quadratic-spec : {M : Type 1} → statement M
-quadratic-spec = tie.close (tie.spec linear-requires step-requires returns)
+quadratic-spec = tie.close (tie.spec linear-requires times-t-plus-requires returns)

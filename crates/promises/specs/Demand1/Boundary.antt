@@ -14,10 +14,10 @@ use Rattle.rules.specs.declared.Direction.{Direction}
 use Rattle.rules.specs.declared.Refusal.{Refusal}
 use Rattle.rules.specs.Checks.{first}
 use Rattle.rules.specs.Refusals.{number, given, refused}
-use Rattle.rules.specs.Answers.{placedAnswer, turnedAnswer, listedAnswer, starredAnswer}
+use Rattle.rules.specs.Answers.{placedAnswer, turnedAnswer, listedAnswer, listedStarAnswer}
 use Rattle.rules.specs.Turning.{turn, turned}
 use Rattle.rules.specs.Place.{placeIn, place}
-use Rattle.rules.specs.StarList.{countIn, fileLength}
+use Rattle.rules.specs.ListFile.{countIn, fileLength}
 use Rattle.rules.specs.ListReading.{listCount, listStar}
 use Rattle.rules.specs.ListWriting.{countFrom, numbersWritten}
 use Rattle.laws.specs.Checks.{FirstGiven, NoneGiven}
@@ -137,19 +137,19 @@ starGiven s = record {
 }
 
 turbelicus-list-star-checked : (file : List ℕ) (index : ℕ)
-    → starredOut (starredAnswer (listStar file index))
+    → starredOut (listedStarAnswer (listStar file index))
     ≡ first (starChecks file index) starRefused (starGiven (starOfRecord file index))
 unfolding starredOut given refused
 turbelicus-list-star-checked file index = ap starredOut (star-answer file index)
     ∙ first-map starredOut (starChecks file index) (λ r. refused r 4) _
 
 pub turbelicus-list-star-refused : (file : List ℕ) (index : ℕ) (r : Refusal)
-    → (starredOut (starredAnswer (listStar file index)) ≡ starRefused r) ↔ FirstGiven (starChecks file index) r
+    → (starredOut (listedStarAnswer (listStar file index)) ≡ starRefused r) ↔ FirstGiven (starChecks file index) r
 turbelicus-list-star-refused file index r = rw (turbelicus-list-star-checked file index)
     (refused-exactly (λ a. a .refused) starRefused _ (λ _. refl) refl (starChecks file index) r)
 
 pub turbelicus-list-star-given : (file : List ℕ) (index : ℕ)
-    → (starredOut (starredAnswer (listStar file index)) ≡ starGiven (starOfRecord file index))
+    → (starredOut (listedStarAnswer (listStar file index)) ≡ starGiven (starOfRecord file index))
     ↔ NoneGiven (starChecks file index)
 turbelicus-list-star-given file index = rw (turbelicus-list-star-checked file index)
     (answered-exactly (λ a. a .refused) starRefused _ (λ _. refl) refl (starChecks file index))

@@ -15,13 +15,13 @@ use Rattle.rules.specs.declared.Entry.{Entry}
 use Rattle.rules.specs.declared.Refusal.{Refusal}
 use Rattle.rules.specs.Checks.{Check, _if_}
 use Rattle.rules.specs.Calendar.{yearRefused, dayRefused, numberRefused, dayNumber}
-use Rattle.rules.specs.Dates.{timeRefused, differenceRefused}
+use Rattle.rules.specs.Dates.{timeRefused, ut1MinusUtcRefused}
 use Rattle.rules.specs.Polynomials.{instantRefused}
 use Rattle.rules.specs.Length.{lengthRefused}
 use Rattle.rules.specs.Turning.{directionRefused, turnRefused}
 use Rattle.rules.specs.Night.{siteRefused}
 use Rattle.rules.specs.Stars.{starRefused}
-use Rattle.rules.specs.StarList.{countIn, anyRefused, stars}
+use Rattle.rules.specs.ListFile.{countIn, anyRefused, stars}
 use Rattle.rules.specs.ListReading.{markRefused, countRefused}
 use Rattle.rules.specs.ListWriting.{starsOf, roomRefused}
 use Rattle.rules.specs.ListWriting.{numberStars, rowRefused}
@@ -42,7 +42,7 @@ numberChecks n = Refusal.Year if numberRefused n ∷ []
 abbrev pub dateChecks : Moment → List Check
 dateChecks m = dayChecks (m .date) ++ (
     Refusal.Time if timeRefused (dayNumber (m .date)) (m .time)
-    ∷ Refusal.Difference if differenceRefused m
+    ∷ Refusal.Ut1MinusUtc if ut1MinusUtcRefused m
     ∷ [])
 
 -- an angle at an instant 12

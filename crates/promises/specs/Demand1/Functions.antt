@@ -15,13 +15,13 @@ use Rattle.rules.specs.declared.Dated.{Dated}
 use Rattle.rules.specs.declared.Instants.{Instants}
 use Rattle.rules.specs.declared.Angle.{Angle}
 use Rattle.rules.specs.declared.Precessed.{Precessed}
-use Rattle.rules.specs.declared.Argued.{Argued}
+use Rattle.rules.specs.declared.FiveArguments.{FiveArguments}
 use Rattle.rules.specs.declared.Nutated.{Nutated}
 use Rattle.rules.specs.declared.Turned.{Turned}
 use Rattle.rules.specs.declared.Prepared.{Prepared}
 use Rattle.rules.specs.declared.Placed.{Placed}
 use Rattle.rules.specs.declared.Listed.{Listed}
-use Rattle.rules.specs.declared.Starred.{Starred}
+use Rattle.rules.specs.declared.ListedStar.{ListedStar}
 use Rattle.promises.specs.Contracts.{Tells, so-told}
 use Rattle.promises.specs.ByContract as answers
 use Rattle.promises.specs.Demand1.Checks as checks
@@ -45,11 +45,11 @@ use Rattle.sidereal.proofs.sidereal as sidereal
 use Rattle.turning.proofs.turn as turn
 use Rattle.place.proofs.place as place
 use Rattle.night.proofs.night_of as night-of
-use Rattle.star_file.proofs.reading.list_count as list-count
-use Rattle.star_file.proofs.reading.list_star as list-star
-use Rattle.star_list.proofs.read_list as read-list
-use Rattle.entries_writing.proofs.write_list as write-list
-use Rattle.star_writing.proofs.list_write as list-write
+use Rattle.list_file.proofs.list_count as list-count
+use Rattle.list_file.proofs.list_star as list-star
+use Rattle.entries_read.proofs.read_list as read-list
+use Rattle.entries_write.proofs.write_list as write-list
+use Rattle.list_from_numbers.proofs.list_write as list-write
 use Rattle.night_list.proofs.night_list as night-list
 
 module _ {M : Type 1} (𝓤 : URA M) (H : Heap 𝓤) (A : Atoms 𝓤) (mem : Memory → SProp 𝓤) (run : Routine → Fun 𝓤) where
@@ -83,7 +83,7 @@ module _ {M : Type 1} (𝓤 : URA M) (H : Heap 𝓤) (A : Atoms 𝓤) (mem : Mem
       (λ e r. rw e (instant.obliquity-refused (passed .0) r))
 
   pub arguments-tells : Tells 𝓤 arguments.ended (arguments.clauses 𝓤 H A mem run)
-      (λ κs passed a x. Refuses a Argued.Refused (checks.instantChecks (passed .0 .0)))
+      (λ κs passed a x. Refuses a FiveArguments.Refused (checks.instantChecks (passed .0 .0)))
   arguments-tells κs passed g a x = so-told 𝓤 (answers.arguments-answers 𝓤 H A mem run κs passed g a x)
       (λ e r. rw e (instant.arguments-refused (passed .0) r))
 
@@ -127,7 +127,7 @@ module _ {M : Type 1} (𝓤 : URA M) (H : Heap 𝓤) (A : Atoms 𝓤) (mem : Mem
       (λ e r. rw e (lists.count-refused (now (passed .0)) r))
 
   pub list-star-tells : Tells 𝓤 list-star.ended (list-star.clauses 𝓤 H A mem run)
-      (λ κs passed a x. Refuses a Starred.Refused (checks.starChecks (now (passed .0)) (passed .1 .0)))
+      (λ κs passed a x. Refuses a ListedStar.Refused (checks.starChecks (now (passed .0)) (passed .1 .0)))
   list-star-tells κs passed g a x = so-told 𝓤 (answers.list-star-answers 𝓤 H A mem run κs passed g a x)
       (λ e r. rw e (lists.star-refused (now (passed .0)) (passed .1 .0) r))
 

@@ -9,11 +9,11 @@ use Rattle.rules.specs.declared.Tt.{Tt}
 use Rattle.rules.specs.declared.Refusal.{Refusal}
 use Rattle.rules.specs.declared.Angle.{Angle}
 use Rattle.rules.specs.declared.Precessed.{Precessed}
-use Rattle.rules.specs.declared.Argued.{Argued}
+use Rattle.rules.specs.declared.FiveArguments.{FiveArguments}
 use Rattle.rules.specs.declared.Nutated.{Nutated}
 use Rattle.rules.specs.Checks.{first}
 use Rattle.rules.specs.Refusals.{given, refused}
-use Rattle.rules.specs.Answers.{angleAnswer, precessedAnswer, arguedAnswer, nutatedAnswer}
+use Rattle.rules.specs.Answers.{angleAnswer, precessedAnswer, fiveArgumentsAnswer, nutatedAnswer}
 use Rattle.rules.specs.Polynomials.{angleAt}
 use Rattle.rules.specs.Precession.{precession, precessionAt, obliquity, obliquityAt}
 use Rattle.rules.specs.Arguments.{arguments, argumentsAt}
@@ -49,24 +49,24 @@ precession-answer t =
 -- ---- the five arguments of nutation
 
 pub arguments-checked : (t : Tt)
-    → argumentsAt t ≡ first (instantChecks (t .0)) Argued.Refused (Argued.By (arguments t))
+    → argumentsAt t ≡ first (instantChecks (t .0)) FiveArguments.Refused (FiveArguments.By (arguments t))
 unfolding argumentsAt first
 arguments-checked t = refl
 
 pub arguments-refused : (t : Tt) (r : Refusal)
-    → (argumentsAt t ≡ Argued.Refused r) ↔ FirstGiven (instantChecks (t .0)) r
-unfolding arguedAnswer given refused
+    → (argumentsAt t ≡ FiveArguments.Refused r) ↔ FirstGiven (instantChecks (t .0)) r
+unfolding fiveArgumentsAnswer given refused
 arguments-refused t r = rw (arguments-checked t)
-    (refused-exactly (λ a. pos (arguedAnswer a .number)) Argued.Refused _ (λ _. refl) refl (instantChecks (t .0)) r)
+    (refused-exactly (λ a. pos (fiveArgumentsAnswer a .number)) FiveArguments.Refused _ (λ _. refl) refl (instantChecks (t .0)) r)
 
 pub arguments-answer : (t : Tt)
-    → arguedAnswer (argumentsAt t)
+    → fiveArgumentsAnswer (argumentsAt t)
     ≡ first (instantChecks (t .0)) (λ r. refused r 5)
     (given (arguments t .moon ∷ arguments t .sun ∷ arguments t .latitude ∷ arguments t .elongation ∷ arguments t .node
     ∷ []))
-unfolding arguedAnswer
+unfolding fiveArgumentsAnswer
 arguments-answer t =
-    ap arguedAnswer (arguments-checked t) ∙ first-map arguedAnswer (instantChecks (t .0)) Argued.Refused _
+    ap fiveArgumentsAnswer (arguments-checked t) ∙ first-map fiveArgumentsAnswer (instantChecks (t .0)) FiveArguments.Refused _
 
 -- ---- nutation
 

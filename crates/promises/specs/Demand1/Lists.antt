@@ -1,5 +1,5 @@
--- Demand 1 of the list file: `star_file::reading::list_count` 9, 10, 5; `star_file::reading::list_star` and
--- `star_list::read_list` then 11.
+-- Demand 1 of the list file: `list_file::list_count` 9, 10, 5; `list_file::list_star` and
+-- `entries_read::read_list` then 11.
 use mathlib.Core.Path.{_≡_, refl, ap, _∙_}
 use mathlib.Core.Logic.{_↔_}
 use mathlib.Core.Bool.{Bool, true, false, not, cond}
@@ -12,13 +12,13 @@ use Rattle.rules.specs.declared.Star.{Star}
 use Rattle.rules.specs.declared.Entry.{Entry}
 use Rattle.rules.specs.declared.Refusal.{Refusal}
 use Rattle.rules.specs.declared.Listed.{Listed}
-use Rattle.rules.specs.declared.Starred.{Starred}
+use Rattle.rules.specs.declared.ListedStar.{ListedStar}
 use Rattle.rules.specs.Checks.{first}
 use Rattle.rules.specs.Refusals.{given, refused}
-use Rattle.rules.specs.Answers.{listedAnswer, starredAnswer}
-use Rattle.rules.specs.StarList.{countIn, stars, fileLength}
+use Rattle.rules.specs.Answers.{listedAnswer, listedStarAnswer}
+use Rattle.rules.specs.ListFile.{countIn, stars, fileLength}
 use Rattle.rules.specs.ListReading.{listCount, readInto, listRead, freshEntry, leaving}
-use Rattle.rules.specs.StarList.{starIn}
+use Rattle.rules.specs.ListFile.{starIn}
 use Rattle.rules.specs.ListReading.{entriesAfterRead, starAt, listStar}
 use Rattle.laws.specs.Checks.{FirstGiven}
 use Rattle.promises.specs.Demand1.Checks.{fileChecks, readChecks, starChecks}
@@ -49,35 +49,35 @@ abbrev pub starOfRecord : List ℕ → ℕ → Star
 starOfRecord file index = starIn (drop (fileLength index) file)
 
 pub star-checked : (file : List ℕ) (index : ℕ)
-    → listStar file index ≡ first (starChecks file index) Starred.Refused (Starred.Of (starOfRecord file index))
+    → listStar file index ≡ first (starChecks file index) ListedStar.Refused (ListedStar.Of (starOfRecord file index))
 unfolding listStar starAt first
 star-checked file index =
     ap (λ l. starAt l file index) (count-checked file)
     ∙ first-map (λ l. starAt l file index) (fileChecks file) Listed.Refused (Listed.Count (countIn file))
-    ∙ ap (first (fileChecks file) Starred.Refused) (the-other-way (ltb index (countIn file)))
+    ∙ ap (first (fileChecks file) ListedStar.Refused) (the-other-way (ltb index (countIn file)))
   where
     the-other-way : (b : Bool)
-        → cond b (Starred.Of (starOfRecord file index)) (Starred.Refused Refusal.Room)
-        ≡ cond (not b) (Starred.Refused Refusal.Room) (Starred.Of (starOfRecord file index))
+        → cond b (ListedStar.Of (starOfRecord file index)) (ListedStar.Refused Refusal.Room)
+        ≡ cond (not b) (ListedStar.Refused Refusal.Room) (ListedStar.Of (starOfRecord file index))
     the-other-way true = refl
     the-other-way false = refl
 
 pub star-refused : (file : List ℕ) (index : ℕ) (r : Refusal)
-    → (listStar file index ≡ Starred.Refused r) ↔ FirstGiven (starChecks file index) r
-unfolding starredAnswer given refused
+    → (listStar file index ≡ ListedStar.Refused r) ↔ FirstGiven (starChecks file index) r
+unfolding listedStarAnswer given refused
 star-refused file index r = rw (star-checked file index)
-    (refused-exactly (λ a. pos (starredAnswer a .number)) Starred.Refused _ (λ _. refl) refl (starChecks file index) r)
+    (refused-exactly (λ a. pos (listedStarAnswer a .number)) ListedStar.Refused _ (λ _. refl) refl (starChecks file index) r)
 
 -- right ascension, declination, their motions
 abbrev pub fourNumbers : Star → List ℤ
 fourNumbers s = s .ra ∷ s .declination ∷ s .«ra_motion» ∷ s .«declination_motion» ∷ []
 
 pub star-answer : (file : List ℕ) (index : ℕ)
-    → starredAnswer (listStar file index)
+    → listedStarAnswer (listStar file index)
     ≡ first (starChecks file index) (λ r. refused r 4) (given (fourNumbers (starOfRecord file index)))
-unfolding starredAnswer
-star-answer file index = ap starredAnswer (star-checked file index)
-    ∙ first-map starredAnswer (starChecks file index) Starred.Refused _
+unfolding listedStarAnswer
+star-answer file index = ap listedStarAnswer (star-checked file index)
+    ∙ first-map listedStarAnswer (starChecks file index) ListedStar.Refused _
 
 -- ---- a file read into entries
 

@@ -81,9 +81,9 @@ night-refused m site r = rw (night-checked m site)
 
 -- TT, then what each of the steps 3 to 6 takes
 abbrev pub twentyNumbers : Night → List ℤ
-twentyNumbers n = n .tt .0 ∷ parts (n .zeta) ++ parts (n .theta) ++ parts (n .z)
+twentyNumbers n = n .tt .0 ∷ parts (n .zeta) ++ parts (n .«minus_theta») ++ parts (n .z)
     ++ (n .aberration .x ∷ n .aberration .y ∷ n .aberration .z ∷ [])
-    ++ parts (n .mean) ++ parts (n .longitude) ++ parts (n .obliquity) ++ parts (n .sidereal) ++ parts (n .latitude)
+    ++ parts (n .«minus_epsilon») ++ parts (n .«delta_psi») ++ parts (n .«true_epsilon») ++ parts (n .«minus_sidereal») ++ parts (n .«latitude_less_quarter»)
 
 pub night-answer : (m : Moment) (site : Site)
     → preparedAnswer (nightOf m site)

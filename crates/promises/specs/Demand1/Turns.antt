@@ -13,7 +13,8 @@ use Rattle.rules.specs.Answers.{turnedAnswer}
 use Rattle.rules.specs.Length.{toLength, broughtToLength}
 use Rattle.rules.specs.Turning.{directionRefused, turnRefused, turn, turned}
 use Rattle.laws.specs.Checks.{FirstGiven}
-use Rattle.laws.specs.Turning.{accepted-of-not-refused, turned-accepted}
+use Rattle.laws.specs.Accepted.{accepted-of-not-refused}
+use Rattle.laws.specs.Turning.{turned-accepted}
 use Rattle.promises.specs.Demand1.Checks.{turnChecks, lengthChecks}
 use Rattle.promises.specs.Demand1.InOrder.{first-map, refused-exactly}
 

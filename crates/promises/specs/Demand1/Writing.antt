@@ -1,5 +1,5 @@
--- Demand 1 of a list written into lent room, 5, 11: of entries by `entries_writing::write_list`, of a row of numbers by
--- `star_writing::list_write`.
+-- Demand 1 of a list written into lent room, 5, 11: of entries by `entries_write::write_list`, of a row of numbers by
+-- `list_from_numbers::list_write`.
 use mathlib.Core.Path.{_≡_, refl, ap, _∙_}
 use mathlib.Core.Logic.{_↔_}
 use mathlib.Core.List.{List, [], _∷_, _++_}
@@ -12,7 +12,7 @@ use Rattle.rules.specs.declared.Listed.{Listed}
 use Rattle.rules.specs.Checks.{first}
 use Rattle.rules.specs.Refusals.{given, refused}
 use Rattle.rules.specs.Answers.{listedAnswer}
-use Rattle.rules.specs.StarList.{fileLength}
+use Rattle.rules.specs.ListFile.{fileLength}
 use Rattle.rules.specs.ListReading.{leaving}
 use Rattle.rules.specs.ListWriting.{starsOf, fileOf, writtenOf, listWritten, roomAfterWrite}
 use Rattle.rules.specs.ListWriting.{countFrom, numberStars, numbersWritten, roomAfterNumbers}

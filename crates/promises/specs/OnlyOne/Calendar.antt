@@ -11,8 +11,6 @@ use Rattle.calendar.proofs.day_of as day-of
 use Rattle.calendar.proofs.date_of as date-of
 use Rattle.calendar.proofs.dates.day_refused as day-refused
 use Rattle.calendar.proofs.dates.day_number as day-number
-use Rattle.calendar.proofs.dates.date_in as date-in
-use Rattle.calendar.proofs.dates.date_at as date-at
 
 module _ {M : Type 1} (𝓤 : URA M) (H : Heap 𝓤) (A : Atoms 𝓤) (mem : Memory → SProp 𝓤) (run : Routine → Fun 𝓤) where
   pub day-of-one : OneAnswer 𝓤 day-of.ended (day-of.clauses 𝓤 H A mem run)
@@ -26,9 +24,3 @@ module _ {M : Type 1} (𝓤 : URA M) (H : Heap 𝓤) (A : Atoms 𝓤) (mem : Mem
 
   pub day-number-one : OneAnswer 𝓤 day-number.ended (day-number.clauses 𝓤 H A mem run)
   day-number-one κs passed g r s x y = one 𝓤 r s _
-
-  pub date-in-one : OneAnswer 𝓤 date-in.ended (date-in.clauses 𝓤 H A mem run)
-  date-in-one κs passed g r s x y = one 𝓤 r s _
-
-  pub date-at-one : OneAnswer 𝓤 date-at.ended (date-at.clauses 𝓤 H A mem run)
-  date-at-one κs passed g r s x y = one 𝓤 r s _

@@ -7,23 +7,11 @@ use prog.Wp.{Heap}
 use ghost.Atoms.{Atoms}
 use contract.Monad.{Fun}
 use Rattle.promises.specs.Contracts.{OneAnswer, one}
-use Rattle.length.proofs.squares_sum as squares-sum
-use Rattle.length.proofs.length_of as length-of
-use Rattle.length.proofs.parts_to as parts-to
 use Rattle.length.proofs.part_to as part-to
 use Rattle.length.proofs.accepted as accepted
 use Rattle.length.proofs.brought as brought
 
 module _ {M : Type 1} (𝓤 : URA M) (H : Heap 𝓤) (A : Atoms 𝓤) (mem : Memory → SProp 𝓤) (run : Routine → Fun 𝓤) where
-  pub squares-sum-one : OneAnswer 𝓤 squares-sum.ended (squares-sum.clauses 𝓤 H A mem run)
-  squares-sum-one κs passed g r s x y = one 𝓤 r s _
-
-  pub length-of-one : OneAnswer 𝓤 length-of.ended (length-of.clauses 𝓤 H A mem run)
-  length-of-one κs passed g r s x y = one 𝓤 r s _
-
-  pub parts-to-one : OneAnswer 𝓤 parts-to.ended (parts-to.clauses 𝓤 H A mem run)
-  parts-to-one κs passed g r s x y = one 𝓤 r s _
-
   pub part-to-one : OneAnswer 𝓤 part-to.ended (part-to.clauses 𝓤 H A mem run)
   part-to-one κs passed g r s x y = one 𝓤 r s _
 

@@ -10,7 +10,7 @@ use Rattle.promises.specs.Contracts.{OneAnswer, one}
 use Rattle.polynomials.proofs.linear as linear
 use Rattle.polynomials.proofs.quadratic as quadratic
 use Rattle.polynomials.proofs.cubic as cubic
-use Rattle.polynomials.proofs.refused_instant as refused-instant
+use Rattle.polynomials.proofs.instant_refused as instant-refused
 
 module _ {M : Type 1} (𝓤 : URA M) (H : Heap 𝓤) (A : Atoms 𝓤) (mem : Memory → SProp 𝓤) (run : Routine → Fun 𝓤) where
   pub linear-one : OneAnswer 𝓤 linear.ended (linear.clauses 𝓤 H A mem run)
@@ -22,5 +22,5 @@ module _ {M : Type 1} (𝓤 : URA M) (H : Heap 𝓤) (A : Atoms 𝓤) (mem : Mem
   pub cubic-one : OneAnswer 𝓤 cubic.ended (cubic.clauses 𝓤 H A mem run)
   cubic-one κs passed g r s x y = one 𝓤 r s _
 
-  pub refused-instant-one : OneAnswer 𝓤 refused-instant.ended (refused-instant.clauses 𝓤 H A mem run)
-  refused-instant-one κs passed g r s x y = one 𝓤 r s _
+  pub instant-refused-one : OneAnswer 𝓤 instant-refused.ended (instant-refused.clauses 𝓤 H A mem run)
+  instant-refused-one κs passed g r s x y = one 𝓤 r s _

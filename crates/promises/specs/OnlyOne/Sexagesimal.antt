@@ -7,28 +7,12 @@ use prog.Wp.{Heap}
 use ghost.Atoms.{Atoms}
 use contract.Monad.{Fun}
 use denote.Ref.{now}
-use Rattle.promises.specs.Contracts.{OneAnswer, OneAnswerAndContent, one, one-each}
-use Rattle.sexagesimal.proofs.put_marked as put-marked
-use Rattle.sexagesimal.proofs.put_clock as put-clock
-use Rattle.sexagesimal.proofs.put_parts as put-parts
+use Rattle.promises.specs.Contracts.{OneAnswerAndContent, one-each}
 use Rattle.sexagesimal.proofs.put_hours as put-hours
 use Rattle.sexagesimal.proofs.put_bearing as put-bearing
-use Rattle.sexagesimal.proofs.sign_of as sign-of
 use Rattle.sexagesimal.proofs.put_elevation as put-elevation
 
 module _ {M : Type 1} (𝓤 : URA M) (H : Heap 𝓤) (A : Atoms 𝓤) (mem : Memory → SProp 𝓤) (run : Routine → Fun 𝓤) where
-  pub put-marked-one : OneAnswerAndContent 𝓤 put-marked.ended (put-marked.clauses 𝓤 H A mem run)
-      (λ κs x. now (x .1 .1 .1 .1 .0))
-  put-marked-one κs passed g r s x y = one-each 𝓤 r s _ _ _ _
-
-  pub put-clock-one : OneAnswerAndContent 𝓤 put-clock.ended (put-clock.clauses 𝓤 H A mem run)
-      (λ κs x. now (x .1 .1 .1 .0))
-  put-clock-one κs passed g r s x y = one-each 𝓤 r s _ _ _ _
-
-  pub put-parts-one : OneAnswerAndContent 𝓤 put-parts.ended (put-parts.clauses 𝓤 H A mem run)
-      (λ κs x. now (x .1 .1 .1 .1 .1 .0))
-  put-parts-one κs passed g r s x y = one-each 𝓤 r s _ _ _ _
-
   pub put-hours-one : OneAnswerAndContent 𝓤 put-hours.ended (put-hours.clauses 𝓤 H A mem run)
       (λ κs x. now (x .1 .1 .0))
   put-hours-one κs passed g r s x y = one-each 𝓤 r s _ _ _ _
@@ -36,9 +20,6 @@ module _ {M : Type 1} (𝓤 : URA M) (H : Heap 𝓤) (A : Atoms 𝓤) (mem : Mem
   pub put-bearing-one : OneAnswerAndContent 𝓤 put-bearing.ended (put-bearing.clauses 𝓤 H A mem run)
       (λ κs x. now (x .1 .1 .0))
   put-bearing-one κs passed g r s x y = one-each 𝓤 r s _ _ _ _
-
-  pub sign-of-one : OneAnswer 𝓤 sign-of.ended (sign-of.clauses 𝓤 H A mem run)
-  sign-of-one κs passed g r s x y = one 𝓤 r s _
 
   pub put-elevation-one : OneAnswerAndContent 𝓤 put-elevation.ended (put-elevation.clauses 𝓤 H A mem run)
       (λ κs x. now (x .1 .1 .0))

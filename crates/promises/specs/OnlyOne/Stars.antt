@@ -9,6 +9,7 @@ use contract.Monad.{Fun}
 use Rattle.promises.specs.Contracts.{OneAnswer, one}
 use Rattle.stars.proofs.star_refused as star-refused
 use Rattle.stars.proofs.numbers_refused as numbers-refused
+use Rattle.stars.proofs.site_refused as site-refused
 
 module _ {M : Type 1} (𝓤 : URA M) (H : Heap 𝓤) (A : Atoms 𝓤) (mem : Memory → SProp 𝓤) (run : Routine → Fun 𝓤) where
   pub star-refused-one : OneAnswer 𝓤 star-refused.ended (star-refused.clauses 𝓤 H A mem run)
@@ -16,3 +17,6 @@ module _ {M : Type 1} (𝓤 : URA M) (H : Heap 𝓤) (A : Atoms 𝓤) (mem : Mem
 
   pub numbers-refused-one : OneAnswer 𝓤 numbers-refused.ended (numbers-refused.clauses 𝓤 H A mem run)
   numbers-refused-one κs passed g r s x y = one 𝓤 r s _
+
+  pub site-refused-one : OneAnswer 𝓤 site-refused.ended (site-refused.clauses 𝓤 H A mem run)
+  site-refused-one κs passed g r s x y = one 𝓤 r s _

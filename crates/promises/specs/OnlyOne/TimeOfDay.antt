@@ -9,7 +9,6 @@ use contract.Monad.{Fun}
 use Rattle.promises.specs.Contracts.{OneAnswer, one}
 use Rattle.time_of_day.proofs.time_refused as time-refused
 use Rattle.time_of_day.proofs.ms_of_day as ms-of-day
-use Rattle.time_of_day.proofs.utc_ms as utc-ms
 use Rattle.time_of_day.proofs.instants_at as instants-at
 
 module _ {M : Type 1} (𝓤 : URA M) (H : Heap 𝓤) (A : Atoms 𝓤) (mem : Memory → SProp 𝓤) (run : Routine → Fun 𝓤) where
@@ -18,9 +17,6 @@ module _ {M : Type 1} (𝓤 : URA M) (H : Heap 𝓤) (A : Atoms 𝓤) (mem : Mem
 
   pub ms-of-day-one : OneAnswer 𝓤 ms-of-day.ended (ms-of-day.clauses 𝓤 H A mem run)
   ms-of-day-one κs passed g r s x y = one 𝓤 r s _
-
-  pub utc-ms-one : OneAnswer 𝓤 utc-ms.ended (utc-ms.clauses 𝓤 H A mem run)
-  utc-ms-one κs passed g r s x y = one 𝓤 r s _
 
   pub instants-at-one : OneAnswer 𝓤 instants-at.ended (instants-at.clauses 𝓤 H A mem run)
   instants-at-one κs passed g r s x y = one 𝓤 r s _

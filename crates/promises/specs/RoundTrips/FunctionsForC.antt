@@ -15,9 +15,9 @@ use ghost.Atoms.{Atoms}
 use contract.Monad.{Fun, conj, fact}
 use denote.Ref.{now}
 use Rattle.rules.specs.declared.Listed.{Listed}
-use Rattle.rules.specs.declared.Starred.{Starred}
+use Rattle.rules.specs.declared.ListedStar.{ListedStar}
 use Rattle.rules.specs.Refusals.{given, refused}
-use Rattle.rules.specs.Answers.{listedAnswer, starredAnswer}
+use Rattle.rules.specs.Answers.{listedAnswer, listedStarAnswer}
 use Rattle.rules.specs.Years.{upFrom}
 use Rattle.rules.specs.ListReading.{listCount, listStar}
 use Rattle.rules.specs.ListWriting.{numbersWritten, roomAfterNumbers}
@@ -27,9 +27,9 @@ use Rattle.answers.specs.declared.lists.TurbelicusCounted.{TurbelicusCounted}
 use Rattle.answers.specs.declared.lists.TurbelicusStarred.{TurbelicusStarred}
 use Rattle.answers.specs.declared.lists.TurbelicusWritten.{TurbelicusWritten}
 use Rattle.answers.specs.Answers.{countedOut, starredOut, writtenOut}
+use Rattle.promises.specs.Contracts.{all-together}
 use Rattle.promises.specs.Calls.{Call, told, allTold, all-tell, Each}
 use Rattle.promises.specs.RoundTrips as rules
-use Rattle.promises.specs.RoundTrips.Functions.{all-together}
 use Rattle.module.proofs.lists.turbelicus_list_count as turbelicus-list-count
 use Rattle.module.proofs.lists.turbelicus_list_star as turbelicus-list-star
 use Rattle.module.proofs.lists.turbelicus_list_write as turbelicus-list-write
@@ -40,10 +40,10 @@ use Rattle.module.proofs.lists.turbelicus_list_write as turbelicus-list-write
 abbrev pub numbersOf : TurbelicusStarred → List ℤ
 numbersOf s = s .ra ∷ s .declination ∷ s .«ra_motion» ∷ s .«declination_motion» ∷ []
 
-numbers-out : (s : Starred) → numbersOf (starredOut (starredAnswer s)) ≡ starredAnswer s .values
-unfolding starredOut starredAnswer given refused
-numbers-out (Starred.Of s) = refl
-numbers-out (Starred.Refused r) = refl
+numbers-out : (s : ListedStar) → numbersOf (starredOut (listedStarAnswer s)) ≡ listedStarAnswer s .values
+unfolding starredOut listedStarAnswer given refused
+numbers-out (ListedStar.Of s) = refl
+numbers-out (ListedStar.Refused r) = refl
 
 -- a struct without a refusal is that of a count, or of a length
 counted-is : (l : Listed) (a : TurbelicusCounted) → a ≡ countedOut (listedAnswer l) → a .refused ≡ pos 0
@@ -106,15 +106,15 @@ module _ {M : Type 1} (𝓤 : URA M) (H : Heap 𝓤) (A : Atoms 𝓤) (mem : Mem
 
   -- what the contract tells of stars of one file
   row-told : (file : List ℕ) (stars : List Asking) → Each (λ c. fileAsked c ≡ file) stars
-      → Each (λ (c : Asking). c .answer ≡ starredOut (starredAnswer (listStar (fileAsked c) (indexAsked c)))) stars
+      → Each (λ (c : Asking). c .answer ≡ starredOut (listedStarAnswer (listStar (fileAsked c) (indexAsked c)))) stars
       → flatMap numbersAnswered stars
-      ≡ flatMap (λ i. starredAnswer (listStar file i) .values) (map indexAsked stars)
+      ≡ flatMap (λ i. listedStarAnswer (listStar file i) .values) (map indexAsked stars)
   unfolding flatMap
   row-told file [] of tells = refl
   row-told file (c ∷ stars) of tells =
-      let one : numbersAnswered c ≡ starredAnswer (listStar file (indexAsked c)) .values =
+      let one : numbersAnswered c ≡ listedStarAnswer (listStar file (indexAsked c)) .values =
       ap numbersOf (tells .0) ∙ numbers-out (listStar (fileAsked c) (indexAsked c))
-      ∙ ap (λ f. starredAnswer (listStar f (indexAsked c)) .values) (of .0) in
+      ∙ ap (λ f. listedStarAnswer (listStar f (indexAsked c)) .values) (of .0) in
       (λ i. one i ++ row-told file stars (of .1) (tells .1) i)
 
   -- the file is written again, byte for byte, and the bytes past it stay
@@ -133,7 +133,7 @@ module _ {M : Type 1} (𝓤 : URA M) (H : Heap 𝓤) (A : Atoms 𝓤) (mem : Mem
       ∙ counted-is (listCount (now (counts .passed .0))) (counts .answer) p (asked .accepted) in
       let row : now (writes .passed .0) ≡ rules.numbersIn file n =
       asked .handed ∙ row-told file stars (asked .of-file) q
-      ∙ ap (flatMap (λ i. starredAnswer (listStar file i) .values)) (asked .by-index) in
+      ∙ ap (flatMap (λ i. listedStarAnswer (listStar file i) .values)) (asked .by-index) in
       let back = rules.stars-then-written file byte n count room (asked .room) in
       (r .0 ∙ rw row (ap (λ l. writtenOut (listedAnswer l)) (back .0)), r .1 ∙ rw row (back .1)))
 

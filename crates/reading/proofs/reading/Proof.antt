@@ -1,9 +1,15 @@
--- `reading::reading` meets its contract: two numbers of 32 bits, made 64.
-use Prim.Native.Nat.{_^_}
-use mathlib.Core.Path.{_∙_}
-use mir.Syntax.{w32}
-use mir.Val.{ofZ}
+-- `reading::reading` meets its contract: two numbers of 32 bits, made 64; (0, 0) reads 0.
+use Prim.Native.Nat.{ℕ, zero, suc, _+_, _<_, _^_}
+use mathlib.Core.Path.{_≡_, refl, sym, ap, _∙_}
+use mathlib.Core.Bool.{true, false}
+use mathlib.Core.Logic.{⊎-elim}
+use native.Mathlib.Omega.{arith}
+use mir.Syntax.{w32, w64}
+use mir.Val.{toZ, ofZ}
 use borrow.Author.Needs.{needs}
+use borrow.Author.Tests.{eqb-true, eqb-false}
+use lib.Dec.{eqb}
+use lib.IntN.{ℤ, pos, negsuc, natAbs}
 use Rattle.rules.specs.Reading.{reading}
 use Rattle.words.specs.Holds.{Holds, widen, widened, widened-ok}
 use Rattle.reading.proofs.reading.Statement.{statement}
@@ -15,18 +21,47 @@ h-holds c = widened (c .args .h) (c .fits .h)
 v-holds : (c : tie.Start) → Holds (widen (ofZ w32 (c .args .v))) (c .args .v) (2 ^ 31)
 v-holds c = widened (c .args .v) (c .fits .v)
 
+cast-first : tie.Need-cast-first
+cast-first c = widened-ok (c .args .h) (c .fits .h)
+
+cast-second : tie.Need-cast-second
+cast-second c = widened-ok (c .args .v) (c .fits .v)
+
+-- ---- both nought
+
 returns : tie.Need-returns
-returns c = search needs ∙ rw (h-holds (c .before) .value, v-holds (c .before) .value) at (c .reading-of .ensures)
+unfolding reading
+returns c =
+    let b = c .before .before in
+    let h : b .args .h ≡ pos 0 = sym (h-holds b .value) ∙ ap (toZ w64) (c .before .if1 .taken) in
+    let v : b .args .v ≡ pos 0 = sym (v-holds b .value) ∙ ap (toZ w64) (eqb-true (widen (ofZ w32 (b .args .v))) 0 (c .if2 .taken)) in
+    rw (h, v)
 
-cast-reading-of : tie.Need-cast-reading-of
-cast-reading-of c = widened-ok (c .args .h) (c .fits .h)
+-- ---- not both
 
-cast-reading-of-2 : tie.Need-cast-reading-of-2
-cast-reading-of-2 c = widened-ok (c .args .v) (c .fits .v)
+returns-2 : tie.Need-returns-2
+returns-2 c =
+    let b = c .before .before in
+    search needs ∙ rw (h-holds b .value, v-holds b .value) at (c .reading-of .ensures)
+
+not-nought : (z : ℤ) → (widen (ofZ w32 z) ≡ 0 → ⊥) → 0 < natAbs z
+not-nought (pos zero) f = absurd (f refl)
+not-nought (pos (suc n)) f = omega arith
+not-nought (negsuc n) f = omega arith
+
+some : (c : tie.Joined1) → 0 < natAbs (c .before .args .h) + natAbs (c .before .args .v)
+some c =
+    let b = c .before in
+    ⊎-elim
+    (λ k. omega (arith, not-nought (b .args .v) (eqb-false _ 0 (k .1 .left))))
+    (λ k. omega (arith, not-nought (b .args .h) (k .left)))
+    (c .if1 .came)
 
 reading-of-requires : tie.Need-reading-of-requires
 reading-of-requires c κs =
-    rw (h-holds c .value, v-holds c .value) (record { h-le = h-holds c .size; v-le = v-holds c .size })
+    let b = c .before in
+    rw (h-holds b .value, v-holds b .value)
+    (record { h-le = h-holds b .size; v-le = v-holds b .size; some = some c })
 
 pub reading-spec : {M : Type 1} → statement M
-reading-spec = tie.close (tie.spec cast-reading-of cast-reading-of-2 reading-of-requires returns)
+reading-spec = tie.close (tie.spec cast-first cast-second returns reading-of-requires returns-2)

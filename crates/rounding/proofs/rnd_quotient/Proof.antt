@@ -29,21 +29,21 @@ rest-held c = toZ-ofZ (rem-fits (c .args .a) (c .args .b) (c .fits .a))
 
 ruleset held = (a-held, b-held, quotient-held, rest-held)
 
-step-is : (c : tie.After-step-away)
-    → toZ w64 (ofZ w64 (c .step-away .result))
+step-is : (c : tie.After-one-away)
+    → toZ w64 (ofZ w64 (c .one-away .result))
     ≡ quotZ (pos 2 *ℤ remZ (c .before .args .a) (c .before .args .b)) (c .before .args .b)
-step-is c = held64 (c .step-away .result) (c .step-away .ok) ∙ simp held at (c .step-away .ensures)
+step-is c = held64 (c .one-away .result) (c .one-away .ok) ∙ simp held at (c .one-away .ensures)
 
 -- ---- the needs
 
 div-result : tie.Need-div-result
 div-result c = quot-ok (c .args .a) (c .args .b) (c .fits .a) (c .fits .b) (c .pre .0)
 
-rem-step-away : tie.Need-rem-step-away
-rem-step-away c = div-result c
+rem-one-away : tie.Need-rem-one-away
+rem-one-away c = div-result c
 
-step-away-requires : tie.Need-step-away-requires
-step-away-requires c κs =
+one-away-requires : tie.Need-one-away-requires
+one-away-requires c κs =
     let lt = rem-lt (c .args .a) (c .args .b) (size-pos (c .args .b) (c .pre .0)) in
     simp held (c .pre .0, (c .pre .1, omega (arith, c .pre .1)))
 
@@ -63,4 +63,4 @@ returns c =
     (rnd-by-quotients (c .before .args .a) (c .before .args .b) (c .before .pre .0))
 
 pub rnd-quotient-spec : {M : Type 1} → statement M
-rnd-quotient-spec = tie.close (tie.spec div-result rem-step-away step-away-requires add-result returns)
+rnd-quotient-spec = tie.close (tie.spec div-result rem-one-away one-away-requires add-result returns)

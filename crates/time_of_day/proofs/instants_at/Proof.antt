@@ -5,7 +5,7 @@ use borrow.Author.Needs.{needs}
 use Rattle.words.specs.Holds.{Holds, bits, _+ʷ_, _-ʷ_, _*ʷ_, lit, got, arg, add, add-ok, mul, mul-ok, sub}
 use Rattle.rules.specs.Dates.{taiMinusUtc}
 use Rattle.laws.specs.Seconds.{tai-le}
-use Rattle.laws.specs.Parts.{utcAt}
+use Rattle.laws.specs.OfNumbers.{utcAt}
 use Rattle.time_of_day.proofs.instants_at.Statement.{statement}
 use Rattle.time_of_day.proofs.instants_at.Tie as tie
 
@@ -19,8 +19,8 @@ module _ (c : tie.Start) where
   ms : Holds (bits (c .args .ms)) (c .args .ms) 86400999
   ms = arg (c .args .ms) (c .pre .ms-le) tt
 
-  difference : Holds (bits (c .args .difference)) (c .args .difference) 900
-  difference = arg (c .args .difference) (c .pre .difference-le) tt
+  «ut1_minus_utc» : Holds (bits (c .args .ut1-minus-utc)) (c .args .ut1-minus-utc) 900
+  «ut1_minus_utc» = arg (c .args .ut1-minus-utc) (c .pre .ut1-minus-utc-le) tt
 
   sum : Holds (bits (c .args .day) *ʷ 86400000 +ʷ bits (c .args .ms) -ʷ 43200000) (utcAt (c .args .day) (c .args .ms))
       most
@@ -48,7 +48,7 @@ module _ (c : tie.After-tai-minus-utc) where
 
 returns : tie.Need-returns
 returns c = rw (
-  add (utc (c .before)) (difference (c .before .before)) tt .value,
+  add (utc (c .before)) («ut1_minus_utc» (c .before .before)) tt .value,
   add (utc (c .before)) (added c) tt
       .value,
 )
@@ -69,7 +69,7 @@ add-tt-2 : tie.Need-add-tt-2
 add-tt-2 c = add-ok (utc (c .before)) (added c) tt
 
 add-t6 : tie.Need-add-t6
-add-t6 c = add-ok (utc (c .before)) (difference (c .before .before)) tt
+add-t6 c = add-ok (utc (c .before)) («ut1_minus_utc» (c .before .before)) tt
 
 pub instants-at-spec : {M : Type 1} → statement M
 instants-at-spec =

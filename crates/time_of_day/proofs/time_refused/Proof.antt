@@ -10,7 +10,7 @@ use Rattle.rules.specs.Units.{between}
 use Rattle.rules.specs.declared.Time.{Time}
 use Rattle.rules.specs.Dates.{lastSecond, timeRefused}
 use Rattle.laws.specs.TimeOfDay.{last-second-le}
-use Rattle.laws.specs.Parts.{timeOfParts}
+use Rattle.laws.specs.OfNumbers.{timeOfParts}
 use Rattle.time_of_day.proofs.time_refused.Statement.{statement}
 use Rattle.time_of_day.proofs.time_refused.Tie as tie
 

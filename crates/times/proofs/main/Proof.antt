@@ -5,7 +5,7 @@ use lib.ListN.{length, take}
 use borrow.Author.Needs.{needs}
 use Rattle.line_reads.specs.Reads.{headerLine}
 use Rattle.line_reads.specs.Lengths.{header-le}
-use Rattle.line_reads.specs.Rooms.{front-of}
+use Rattle.laws.specs.PuttingBytes.{front-of}
 use Rattle.times.specs.Turns.{Handed, header}
 use Rattle.times.proofs.main.Statement.{statement}
 use Rattle.times.proofs.main.Tie as tie

@@ -9,9 +9,9 @@ use borrow.Author.Needs.{needs}
 use borrow.Author.Tests.{ltb-true}
 use Rattle.rules.specs.Times.{overlaid}
 use Rattle.line_reads.specs.declared.Start.{Start}
-use Rattle.line_reads.specs.Reads.{answersOf, readStep}
+use Rattle.line_reads.specs.Reads.{answersOf, afterRead}
 use Rattle.line_reads.specs.Lengths.{written-le}
-use Rattle.line_reads.specs.Rooms.{front-of}
+use Rattle.laws.specs.PuttingBytes.{front-of}
 use Rattle.times.specs.Turns.{Handed, answers}
 use Rattle.times.proofs.read_some.Statement.{statement}
 use Rattle.times.proofs.read_some.Tie as tie
@@ -62,7 +62,7 @@ module _ (c : tie.After-answer-read) where
   long : length bytes ≤ 1024
   long = omega (arith, length-take count (got .read .last .1 .0), size got)
 
-  step-is : c .answer-read .result ≡ readStep begun bytes
+  step-is : c .answer-read .result ≡ afterRead begun bytes
   step-is = c .answer-read .ensures .0
 
   room-is : c .answer-read .last .1 .1 .1 .0 ≡ overlaid (answersOf begun bytes) room

@@ -8,7 +8,8 @@ use Rattle.rules.specs.Length.{squares}
 use Rattle.rules.specs.Circle.{pair}
 use Rattle.rules.specs.Turning.{Accepted, directionRefused, turnRefused, turn, turned}
 use Rattle.laws.specs.Angles.{pair-length}
-use Rattle.laws.specs.Turning.{accepted-of-not-refused, turned-accepted}
+use Rattle.laws.specs.Accepted.{accepted-of-not-refused}
+use Rattle.laws.specs.Turning.{turned-accepted}
 use Rattle.words.specs.Tests.{not-taken, not-left}
 use Rattle.turning.proofs.turn.Statement.{statement}
 use Rattle.turning.proofs.turn.Tie as tie

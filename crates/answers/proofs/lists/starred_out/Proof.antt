@@ -4,7 +4,7 @@ use borrow.Author.Needs.{needs}
 use mir.Syntax.{w32, w64}
 use mir.Val.{toZ, ofZ}
 use Rattle.rules.specs.Refusals.{given, refused}
-use Rattle.rules.specs.Answers.{starredAnswer}
+use Rattle.rules.specs.Answers.{listedStarAnswer}
 use Rattle.words.specs.Fits.{held64}
 use Rattle.answers.specs.Answers.{starredOut}
 use Rattle.answers.proofs.lists.starred_out.Statement.{statement}
@@ -20,7 +20,7 @@ number-requires : tie.Need-number-requires
 number-requires c κs = search needs
 
 returns : tie.Need-returns
-unfolding starredOut starredAnswer given
+unfolding starredOut listedStarAnswer given
 returns c =
     let s = c .before .before .a .given .0 .0 in
     let ra-held : toZ w64 (ofZ w64 (s .ra)) ≡ s .ra = search needs in
@@ -30,7 +30,7 @@ returns c =
     rw (c .before .before .a .given .1, ra-held, declination-held, across-held, along-held)
 
 returns-2 : tie.Need-returns-2
-unfolding starredOut starredAnswer refused
+unfolding starredOut listedStarAnswer refused
 returns-2 c =
     rw (c .before .before .a2 .given .1, held64 (c .number .result) (c .number .ok) ∙ c .number .ensures)
 

@@ -6,8 +6,8 @@ use native.Mathlib.Omega.{arith}
 use lib.ListN.{length, take, drop}
 use borrow.Author.Needs.{needs}
 use borrow.Author.Tests.{eq-eqb, ne-eqb}
+use Rattle.laws.specs.PuttingBytes.{part-put}
 use Rattle.line_reads.specs.Reads.{answered, startAfter, answerAt}
-use Rattle.line_reads.specs.Rooms.{sets-from}
 use Rattle.line_reads.specs.Lengths.{answered-le}
 use Rattle.line_reads.proofs.bytes.answer_byte.Statement.{statement}
 use Rattle.line_reads.proofs.bytes.answer_byte.Tie as tie
@@ -48,7 +48,7 @@ returns c =
     let n = p .put-answer .ensures .0 in (
       simp t (cc),
       simp t (ap (λ l. take at room ++ (l ++ drop (length room - at) (drop at room))) (p .put-answer .ensures .1)
-          ∙ sets-from (answered (s .args .start)) room at (omega (arith, answered-le (s .args .start), s .pre))),
+          ∙ part-put at room (answered (s .args .start))),
     )
 
 with-byte-requires : tie.Need-with-byte-requires

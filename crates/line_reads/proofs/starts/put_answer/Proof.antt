@@ -4,16 +4,17 @@ use mathlib.Core.List.{List}
 use Prim.Native.Nat.{ℕ, _≤_}
 use native.Mathlib.Omega.{arith}
 use lib.ListN.{length, take, set, length-append}
-use lib.Seq.{length-take-le}
+use lib.Seq.{length-take-le, sets, length-sets}
 use borrow.Author.Needs.{needs}
 use borrow.Author.Tests.{le-ltb}
 use Rattle.rules.specs.Lines.{lineOf}
 use Rattle.rules.specs.Times.{printed, newline, overlaid}
-use Rattle.laws.specs.Room.{length-overlaid}
+use Rattle.laws.specs.PuttingBytes.{overlaid-is}
+use Rattle.laws.specs.LinesWithEnds.{ended-one, line-put}
 use Rattle.laws.specs.Times.{printed-le}
-use Rattle.lines.specs.Printed.{printedIn}
+use Rattle.line_times.specs.Printed.{printedIn}
 use Rattle.line_reads.specs.Reads.{held, answered}
-use Rattle.line_reads.specs.Rooms.{set-after, take-min}
+use Rattle.line_reads.specs.Rooms.{take-min}
 use Rattle.line_reads.proofs.starts.put_answer.Statement.{statement}
 use Rattle.line_reads.proofs.starts.put_answer.Tie as tie
 
@@ -33,16 +34,16 @@ held-is c =
 array-share-prefix-bytes : tie.Need-array-share-prefix-bytes
 array-share-prefix-bytes c = omega (arith, c .at-most .ensures, size (c .before .before .before))
 
-slice-aggregate-print-into : tie.Need-slice-aggregate-print-into
-slice-aggregate-print-into c =
+slice-aggregate-print-line : tie.Need-slice-aggregate-print-line
+slice-aggregate-print-line c =
     let b = c .before in
     sym (length-take-le (b .at-most .result) (b .before .before .before .args .start .bytes)
     (omega (arith, b .at-most .ensures, size (b .before .before .before))))
 
-print-into-requires : tie.Need-print-into-requires
-print-into-requires c κs = search needs
+print-line-requires : tie.Need-print-line-requires
+print-line-requires c κs = search needs
 
-module _ (c : tie.After-print-into) where
+module _ (c : tie.After-print-line) where
   abbrev entry : tie.Start
   entry = c .before .before .before .before .before .before
 
@@ -62,17 +63,19 @@ module _ (c : tie.After-print-into) where
   answer-is : printedIn room (take (c .before .before .before .at-most .result) (entry .args .start .bytes)) ≡ answer
   answer-is = in-room _ ∙ ap (λ line. printed (lineOf line)) (held-is (c .before .before .before))
 
-  end-is : c .print-into .result ≡ length answer
-  end-is = c .print-into .ensures .0 ∙ ap length answer-is
+  end-is : c .print-line .result ≡ length answer
+  end-is = c .print-line .ensures .0 ∙ ap length answer-is
 
-  room-is : c .print-into .last .1 .0 ≡ overlaid answer room
-  room-is = c .print-into .ensures .1 ∙ ap (λ bytes. overlaid bytes room) answer-is
-
-  short : c .print-into .result ≤ 62
+  short : c .print-line .result ≤ 62
   short = omega (arith, end-is, printed-le (lineOf (held (entry .args .start))))
 
-  long : length (c .print-into .last .1 .0) ≡ length room
-  long = ap length room-is ∙ length-overlaid answer room (omega (arith, wide, end-is, short))
+  room-is : c .print-line .last .1 .0 ≡ sets room 0 answer
+  room-is =
+      c .print-line .ensures .1 ∙ ap (λ bytes. overlaid bytes room) answer-is
+      ∙ sym (overlaid-is answer room (omega (arith, wide, end-is, short)))
+
+  long : length (c .print-line .last .1 .0) ≡ length room
+  long = ap length room-is ∙ length-sets room 0 answer
 
 slice-write-out : tie.Need-slice-write-out
 slice-write-out c = let p = c .before .before in omega (arith, short p, long p, wide p)
@@ -86,12 +89,11 @@ same-length c = search needs
 returns : tie.Need-returns
 unfolding answered
 returns c =
-    let p = c .before .before in
-    let h : length (answer p) ≤ length (room p) = omega (arith, wide p, end-is p, short p) in (
+    let p = c .before .before in (
       simp length-append (omega (arith, end-is p)),
-      ap (λ l. set l (p .print-into .result) newline) (room-is p)
-          ∙ ap (λ n. set (overlaid (answer p) (room p)) n newline) (end-is p)
-          ∙ set-after (answer p) (room p) newline h,
+      ap (λ l. set l (p .print-line .result) newline) (room-is p)
+          ∙ line-put (room p) (answer p) 0 (p .print-line .result) (omega (arith, end-is p))
+          ∙ ap (sets (room p) 0) (ended-one (answer p)),
     )
 
 pub put-answer-spec : {M : Type 1} → statement M
@@ -100,8 +102,8 @@ put-answer-spec =
     (tie.spec
     at-most-requires
     array-share-prefix-bytes
-    slice-aggregate-print-into
-    print-into-requires
+    slice-aggregate-print-line
+    print-line-requires
     slice-write-out
     add-result
     same-length

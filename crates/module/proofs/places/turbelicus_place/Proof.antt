@@ -25,7 +25,7 @@ returns c =
       toZ-ofZ (b .fits .minute),
       toZ-ofZ (b .fits .second),
       toZ-ofZ (b .fits .ms),
-      toZ-ofZ (b .fits .difference),
+      toZ-ofZ (b .fits .ut1-minus-utc),
       toZ-ofZ (b .fits .latitude),
       toZ-ofZ (b .fits .longitude),
       toZ-ofZ (b .fits .ra),

@@ -1,15 +1,15 @@
 -- `series::parts::pair_of_parts` meets its contract.
-use Prim.Native.Nat.{_*_}
 use mathlib.Core.Path.{_∙_}
 use native.Mathlib.Omega.{arith}
-use lib.IntN.{pos, _*ℤ_}
+use lib.IntN.{pos}
 use borrow.Author.Needs.{needs}
 use Rattle.rules.specs.Units.{unit}
 use Rattle.rules.specs.Circle.{squareParts, stages, sineRow, rawSine, rawCosine, pairOfParts}
 use Rattle.laws.specs.UpTo.{upTo-le}
 use Rattle.laws.specs.Circle.{halfQuarterParts, square-range, sine-stages-range, rawSine-range, rawCosine-range}
 use Rattle.laws.specs.CircleLength.{rawPair, lengthOf-pos}
-use Rattle.words.specs.Holds.{Holds, bits, _*ʷ_, arg, got, mul, mul-ok}
+use Rattle.words.specs.Holds.{Holds, bits, arg, got}
+use Rattle.rounding.proofs.ByUnit.{product-fits, product-asked, product-rounded}
 use Rattle.series.specs.Given.{PairGiven}
 use Rattle.series.proofs.parts.pair_of_parts.Statement.{statement}
 use Rattle.series.proofs.parts.pair_of_parts.Tie as tie
@@ -30,18 +30,12 @@ p-holds c =
     got (rw (w-holds (c .before) .value) at (c .sine-factor .ensures))
     (upTo-le (stages (squareParts x) sineRow (pos unit)) unit (sine-stages-range x (c .before .before .pre))) tt
 
-product-holds : (c : tie.After-sine-factor)
-    → Holds (bits (c .before .before .args .x) *ʷ bits (c .sine-factor .result))
-    (c .before .before .args .x *ℤ stages (squareParts (c .before .before .args .x)) sineRow (pos unit))
-    (halfQuarterParts * unit)
-product-holds c = mul (x-holds (c .before .before)) (p-holds c) tt
-
 s-holds : (c : tie.After-rnd-by-unit)
     → Holds (bits (c .rnd-by-unit .result)) (rawSine (c .before .before .before .args .x)) halfQuarterParts
 unfolding rawSine
 s-holds c =
     let x = c .before .before .before .args .x in
-    got (rw (product-holds (c .before) .value) at (c .rnd-by-unit .ensures))
+    got (product-rounded (x-holds (c .before .before .before)) (p-holds (c .before)) tt (c .rnd-by-unit .ensures))
     (upTo-le (rawSine x) halfQuarterParts (rawSine-range x (c .before .before .before .pre))) tt
 
 c-holds : (c : tie.After-raw-cosine)
@@ -59,10 +53,10 @@ sine-factor-requires : tie.Need-sine-factor-requires
 sine-factor-requires c κs = rw (w-holds c .value) (square-range (c .before .args .x) (c .before .pre))
 
 mul-rnd-by-unit : tie.Need-mul-rnd-by-unit
-mul-rnd-by-unit c = mul-ok (x-holds (c .before .before)) (p-holds c) tt
+mul-rnd-by-unit c = product-fits (x-holds (c .before .before)) (p-holds c) tt
 
 rnd-by-unit-requires : tie.Need-rnd-by-unit-requires
-rnd-by-unit-requires c κs = rw (product-holds c .value) (omega (arith, product-holds c .size))
+rnd-by-unit-requires c κs = product-asked (x-holds (c .before .before)) (p-holds c) tt
 
 raw-cosine-requires : tie.Need-raw-cosine-requires
 raw-cosine-requires c κs =

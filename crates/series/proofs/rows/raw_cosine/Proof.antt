@@ -1,142 +1,63 @@
--- `series::rows::raw_cosine` meets its contract: what p is after each stage, and that it lies from nought to a whole.
-use Prim.Native.Nat.{ℕ, _≤_, _<_}
+-- `series::rows::raw_cosine` meets its contract: what is answered after each stage is the row so far.
+use Prim.Native.Nat.{ℕ}
 use lib.Dec.{lit<, lit≤}
 use lib.IntN.{ℤ, pos}
+use lib.ListN.{take}
 use Rattle.rules.specs.Units.{unit}
+use Rattle.rules.specs.Rounding.{rndSize}
 use Rattle.rules.specs.Circle as rule
-use Rattle.laws.specs.UpTo.{UpTo, upTo-pos, upTo-le}
-use Rattle.laws.specs.Chain.{stage-range}
-use Rattle.laws.specs.Circle.{unit-upTo}
-use Rattle.words.specs.Holds.{Holds, bits, arg, got}
-use Rattle.series.specs.Given.{StageGiven}
+use Rattle.series.proofs.Stages.{SoFar, whole-so-far, held, stage-asks, circle-stage-tells}
 use Rattle.series.proofs.rows.raw_cosine.Statement.{statement}
 use Rattle.series.proofs.rows.raw_cosine.Tie as tie
 
-w-holds : (c : tie.Start) → Holds (bits (c .args .w)) (c .args .w) unit
-w-holds c = arg (c .args .w) (upTo-le (c .args .w) unit (c .pre)) tt
-
-given : (c : tie.Start) (p : ℤ) (k : ℕ) → UpTo p unit → 0 < k → k ≤ 132 → StageGiven (c .args .w) (pos k) p
-given c p k hp hk lk = record { w-range = c .pre; p-range = hp; k-pos = hk; k-range = upTo-pos k 132 lk }
-
--- ---- p before the first stage and after each; s goes back to the start
-
-abbrev p1 : tie.Start → ℤ
-p1 c = rule.stage (c .args .w) 132 (pos unit)
-
-p1-range : (c : tie.Start) → UpTo (p1 c) unit
-p1-range c = stage-range (c .args .w) (pos unit) 132 (c .pre) unit-upTo (lit< tt)
-
-abbrev s1 : tie.After-stage → tie.Start
-s1 c = c .before
-
-p1-holds : (c : tie.After-stage) → Holds (bits (c .stage .result)) (p1 (s1 c)) unit
-p1-holds c =
-    got (rw (w-holds (s1 c) .value) at (c .stage .ensures))
-    (upTo-le (p1 (s1 c)) unit (p1-range (s1 c))) tt
-
-abbrev p2 : tie.Start → ℤ
-p2 c = rule.stage (c .args .w) 90 (p1 c)
-
-p2-range : (c : tie.Start) → UpTo (p2 c) unit
-p2-range c = stage-range (c .args .w) (p1 c) 90 (c .pre) (p1-range c) (lit< tt)
-
-abbrev s2 : tie.After-stage2 → tie.Start
-s2 c = s1 (c .before)
-
-p2-holds : (c : tie.After-stage2) → Holds (bits (c .stage2 .result)) (p2 (s2 c)) unit
-p2-holds c =
-    got (rw (w-holds (s2 c) .value, p1-holds (c .before) .value) at (c .stage2 .ensures))
-    (upTo-le (p2 (s2 c)) unit (p2-range (s2 c))) tt
-
-abbrev p3 : tie.Start → ℤ
-p3 c = rule.stage (c .args .w) 56 (p2 c)
-
-p3-range : (c : tie.Start) → UpTo (p3 c) unit
-p3-range c = stage-range (c .args .w) (p2 c) 56 (c .pre) (p2-range c) (lit< tt)
-
-abbrev s3 : tie.After-stage3 → tie.Start
-s3 c = s2 (c .before)
-
-p3-holds : (c : tie.After-stage3) → Holds (bits (c .stage3 .result)) (p3 (s3 c)) unit
-p3-holds c =
-    got (rw (w-holds (s3 c) .value, p2-holds (c .before) .value) at (c .stage3 .ensures))
-    (upTo-le (p3 (s3 c)) unit (p3-range (s3 c))) tt
-
-abbrev p4 : tie.Start → ℤ
-p4 c = rule.stage (c .args .w) 30 (p3 c)
-
-p4-range : (c : tie.Start) → UpTo (p4 c) unit
-p4-range c = stage-range (c .args .w) (p3 c) 30 (c .pre) (p3-range c) (lit< tt)
-
-abbrev s4 : tie.After-stage4 → tie.Start
-s4 c = s3 (c .before)
-
-p4-holds : (c : tie.After-stage4) → Holds (bits (c .stage4 .result)) (p4 (s4 c)) unit
-p4-holds c =
-    got (rw (w-holds (s4 c) .value, p3-holds (c .before) .value) at (c .stage4 .ensures))
-    (upTo-le (p4 (s4 c)) unit (p4-range (s4 c))) tt
-
-abbrev p5 : tie.Start → ℤ
-p5 c = rule.stage (c .args .w) 12 (p4 c)
-
-p5-range : (c : tie.Start) → UpTo (p5 c) unit
-p5-range c = stage-range (c .args .w) (p4 c) 12 (c .pre) (p4-range c) (lit< tt)
-
-abbrev s5 : tie.After-stage5 → tie.Start
-s5 c = s4 (c .before)
-
-p5-holds : (c : tie.After-stage5) → Holds (bits (c .stage5 .result)) (p5 (s5 c)) unit
-p5-holds c =
-    got (rw (w-holds (s5 c) .value, p4-holds (c .before) .value) at (c .stage5 .ensures))
-    (upTo-le (p5 (s5 c)) unit (p5-range (s5 c))) tt
-
-abbrev p6 : tie.Start → ℤ
-p6 c = rule.stage (c .args .w) 2 (p5 c)
-
-p6-range : (c : tie.Start) → UpTo (p6 c) unit
-p6-range c = stage-range (c .args .w) (p5 c) 2 (c .pre) (p5-range c) (lit< tt)
-
-abbrev s6 : tie.After-stage6 → tie.Start
-s6 c = s5 (c .before)
-
-p6-holds : (c : tie.After-stage6) → Holds (bits (c .stage6 .result)) (p6 (s6 c)) unit
-p6-holds c =
-    got (rw (w-holds (s6 c) .value, p5-holds (c .before) .value) at (c .stage6 .ensures))
-    (upTo-le (p6 (s6 c)) unit (p6-range (s6 c))) tt
-
--- ---- the needs
+-- r is what the first n stages give
+abbrev After : tie.Start → ℕ → ℤ → Type 0
+After s n r = SoFar (s .args .w) r (rule.stages (s .args .w) (take n rule.cosineRow) (pos unit)) unit
 
 stage-requires : tie.Need-stage-requires
-stage-requires c κs = rw (w-holds c .value) (given c (pos unit) 132 unit-upTo (lit< tt) (lit≤ tt))
+stage-requires c κs = stage-asks (whole-so-far (c .pre)) (lit< tt) (lit≤ tt)
+
+after-1 : (c : tie.After-stage) → After (c .before) 1 (c .stage .result)
+unfolding rule.stages rndSize
+after-1 c = circle-stage-tells (whole-so-far (c .before .pre)) 132 tt (c .stage .ensures)
 
 stage-requires-2 : tie.Need-stage-requires-2
-stage-requires-2 c κs =
-    rw (w-holds (s1 c) .value, p1-holds c .value)
-    (given (s1 c) (p1 (s1 c)) 90 (p1-range (s1 c)) (lit< tt) (lit≤ tt))
+stage-requires-2 c κs = stage-asks (after-1 c) (lit< tt) (lit≤ tt)
+
+after-2 : (c : tie.After-stage2) → After (c .before .before) 2 (c .stage2 .result)
+unfolding rule.stages rndSize
+after-2 c = circle-stage-tells (after-1 (c .before)) 90 tt (c .stage2 .ensures)
 
 stage-requires-3 : tie.Need-stage-requires-3
-stage-requires-3 c κs =
-    rw (w-holds (s2 c) .value, p2-holds c .value)
-    (given (s2 c) (p2 (s2 c)) 56 (p2-range (s2 c)) (lit< tt) (lit≤ tt))
+stage-requires-3 c κs = stage-asks (after-2 c) (lit< tt) (lit≤ tt)
+
+after-3 : (c : tie.After-stage3) → After (c .before .before .before) 3 (c .stage3 .result)
+unfolding rule.stages rndSize
+after-3 c = circle-stage-tells (after-2 (c .before)) 56 tt (c .stage3 .ensures)
 
 stage-requires-4 : tie.Need-stage-requires-4
-stage-requires-4 c κs =
-    rw (w-holds (s3 c) .value, p3-holds c .value)
-    (given (s3 c) (p3 (s3 c)) 30 (p3-range (s3 c)) (lit< tt) (lit≤ tt))
+stage-requires-4 c κs = stage-asks (after-3 c) (lit< tt) (lit≤ tt)
+
+after-4 : (c : tie.After-stage4) → After (c .before .before .before .before) 4 (c .stage4 .result)
+unfolding rule.stages rndSize
+after-4 c = circle-stage-tells (after-3 (c .before)) 30 tt (c .stage4 .ensures)
 
 stage-requires-5 : tie.Need-stage-requires-5
-stage-requires-5 c κs =
-    rw (w-holds (s4 c) .value, p4-holds c .value)
-    (given (s4 c) (p4 (s4 c)) 12 (p4-range (s4 c)) (lit< tt) (lit≤ tt))
+stage-requires-5 c κs = stage-asks (after-4 c) (lit< tt) (lit≤ tt)
+
+after-5 : (c : tie.After-stage5) → After (c .before .before .before .before .before) 5 (c .stage5 .result)
+unfolding rule.stages rndSize
+after-5 c = circle-stage-tells (after-4 (c .before)) 12 tt (c .stage5 .ensures)
 
 stage-requires-6 : tie.Need-stage-requires-6
-stage-requires-6 c κs =
-    rw (w-holds (s5 c) .value, p5-holds c .value)
-    (given (s5 c) (p5 (s5 c)) 2 (p5-range (s5 c)) (lit< tt) (lit≤ tt))
+stage-requires-6 c κs = stage-asks (after-5 c) (lit< tt) (lit≤ tt)
+
+after-6 : (c : tie.After-stage6) → After (c .before .before .before .before .before .before) 6 (c .stage6 .result)
+unfolding rule.stages rndSize
+after-6 c = circle-stage-tells (after-5 (c .before)) 2 tt (c .stage6 .ensures)
 
 returns : tie.Need-returns
-unfolding rule.stages
-returns c = p6-holds c .value
+returns c = held (after-6 c)
 
 pub raw-cosine-spec : {M : Type 1} → statement M
 raw-cosine-spec =

@@ -1,7 +1,7 @@
 -- `series::rows::stage` meets its contract.
-use Prim.Native.Nat.{_*_, _<_}
+use Prim.Native.Nat.{_*_}
 use native.Mathlib.Omega.{arith}
-use lib.Dec.{lt→ltb}
+use lib.Dec.{lt→ltb, ltb→lt}
 use lib.IntN.{ℤ, pos, negsuc, natAbs, _*ℤ_}
 use lib.Signed.{_<ℤ_}
 use Rattle.integers.specs.Size.{abs-mul}
@@ -9,42 +9,33 @@ use Rattle.rules.specs.Units.{unit}
 use Rattle.rules.specs.Rounding.{rnd}
 use Rattle.rules.specs.Circle as rule
 use Rattle.laws.specs.Rounding.{rnd-under}
-use Rattle.laws.specs.UpTo.{UpTo, upTo-le}
-use Rattle.words.specs.Holds.{Holds, bits, _*ʷ_, arg, got, lit, sub, sub-ok, mul, mul-ok}
+use Rattle.words.specs.Holds.{Holds, bits, _*ʷ_, got, lit, sub, sub-ok, mul, mul-ok}
+use Rattle.series.proofs.Stages.{w-holds, p-holds, k-holds, k-above}
 use Rattle.series.proofs.rows.stage.Statement.{statement}
 use Rattle.series.proofs.rows.stage.Tie as tie
 
-w-holds : (c : tie.Start) → Holds (bits (c .args .w)) (c .args .w) unit
-w-holds c = arg (c .args .w) (upTo-le (c .args .w) unit (c .pre .w-range)) tt
-
-p-holds : (c : tie.Start) → Holds (bits (c .args .p)) (c .args .p) unit
-p-holds c = arg (c .args .p) (upTo-le (c .args .p) unit (c .pre .p-range)) tt
-
-k-holds : (c : tie.Start) → Holds (bits (c .args .k)) (c .args .k) 132
-k-holds c = arg (c .args .k) (upTo-le (c .args .k) 132 (c .pre .k-range)) tt
-
 product-holds : (c : tie.Start)
     → Holds (bits (c .args .w) *ʷ bits (c .args .p)) (c .args .w *ℤ c .args .p) (unit * unit)
-product-holds c = mul (w-holds c) (p-holds c) tt
+product-holds c = mul (w-holds (c .pre)) (p-holds (c .pre)) tt
 
 divisor-holds : (c : tie.Start) → Holds (unit *ʷ bits (c .args .k)) (pos unit *ℤ c .args .k) (unit * 132)
-divisor-holds c = mul (lit unit tt) (k-holds c) tt
+divisor-holds c = mul (lit unit tt) (k-holds (c .pre)) tt
 
-divisor-pos : (k : ℤ) → 0 < natAbs k → UpTo k 132 → pos 0 <ℤ (pos unit *ℤ k)
-divisor-pos (pos n) h r = record { lt = lt→ltb 0 (unit * n) (omega arith) }
-divisor-pos (negsuc n) h r = absurd (omega (arith, r .low))
+divisor-pos : (k : ℤ) → pos 0 <ℤ k → pos 0 <ℤ (pos unit *ℤ k)
+divisor-pos (pos n) h = record { lt = lt→ltb 0 (unit * n) (omega (arith, ltb→lt 0 n (h .lt))) }
+divisor-pos (negsuc n) h = absurd (h .lt)
 
 mul-rnd-short-quotient : tie.Need-mul-rnd-short-quotient
-mul-rnd-short-quotient c = mul-ok (w-holds c) (p-holds c) tt
+mul-rnd-short-quotient c = mul-ok (w-holds (c .pre)) (p-holds (c .pre)) tt
 
 mul-rnd-short-quotient-2 : tie.Need-mul-rnd-short-quotient-2
-mul-rnd-short-quotient-2 c = mul-ok (lit unit tt) (k-holds c) tt
+mul-rnd-short-quotient-2 c = mul-ok (lit unit tt) (k-holds (c .pre)) tt
 
 rnd-short-quotient-requires : tie.Need-rnd-short-quotient-requires
 rnd-short-quotient-requires c κs =
     rw (product-holds c .value, divisor-holds c .value) (
       omega (arith, product-holds c .size),
-      (divisor-pos (c .args .k) (c .pre .k-pos) (c .pre .k-range), omega (arith, divisor-holds c .size)),
+      (divisor-pos (c .args .k) (k-above (c .pre)), omega (arith, divisor-holds c .size)),
     )
 
 quotient-holds : (c : tie.After-rnd-short-quotient)

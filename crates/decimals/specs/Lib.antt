@@ -1,0 +1,2 @@
+-- What the clauses of `decimals` cite.
+pub mod Refused

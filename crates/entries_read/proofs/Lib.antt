@@ -1,0 +1,2 @@
+-- what the walk needs of its plan
+pub mod Reading

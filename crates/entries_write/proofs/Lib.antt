@@ -1,0 +1,2 @@
+-- what the walks need of plans
+mod Writing

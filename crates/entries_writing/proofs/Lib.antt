@@ -1,3 +1,0 @@
--- what the walks need of plans, and a slice that is lent again
-mod Writing
-mod Again

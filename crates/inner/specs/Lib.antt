@@ -1,3 +1,0 @@
--- What the exports for the tests answer.
-pub mod Numbers
-pub mod Pairs

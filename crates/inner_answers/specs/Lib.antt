@@ -1,3 +1,0 @@
--- What the tests get.
-pub mod Angles
-pub mod Dates

@@ -1,2 +1,0 @@
--- What the exports are given.
-pub mod Given

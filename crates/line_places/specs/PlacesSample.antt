@@ -1,0 +1,138 @@
+-- What the program prints for a list of two stars, worked out by the rules alone, byte for byte: Sirius and the star at
+-- the equinox, on the evening and at the site of `laws/specs/SampleNight.antt`.
+use mathlib.Core.Path.{_≡_, refl, sym, ap, _∙_}
+use mathlib.Core.Bool.{Bool, true, false}
+use mathlib.Core.List.{List, [], _∷_, _++_}
+use Prim.Native.Nat.{ℕ}
+use Rattle.rules.specs.declared.Star.{Star}
+use Rattle.rules.specs.declared.Place.{Place}
+use Rattle.rules.specs.declared.Instants.{Instants}
+use Rattle.rules.specs.declared.Placed.{Placed}
+use Rattle.rules.specs.declared.Prepared.{Prepared}
+use Rattle.rules.specs.declared.Listed.{Listed}
+use Rattle.rules.specs.declared.ListedStar.{ListedStar}
+use Rattle.rules.specs.Units.{between, within}
+use Rattle.rules.specs.Rounding.{rnd, rndSize, modulo}
+use Rattle.rules.specs.Stars.{starRefused}
+use Rattle.rules.specs.Night.{siteRefused, night, nightAt, nightOf}
+use Rattle.rules.specs.Place.{placeIn, placeAt, place}
+use Rattle.rules.specs.Bytes.{ofBytes, bytesOf, signedOf, unsignedOf}
+use Rattle.rules.specs.Bytes.{part, unsignedAt, signedAt, signedBytes, sameBytes}
+use Rattle.rules.specs.ListFile.{countIn, fileLength, starIn, recordOf, starsIn, stars, anyRefused}
+use Rattle.rules.specs.ListReading.{markRefused, countRefused, listCount, freshEntry, starAt, listStar}
+use Rattle.rules.specs.ListWriting.{fileOf}
+use Rattle.rules.specs.NightList.{worked}
+use Rattle.rules.specs.Numerals.{isDigit, alike, ofForm, negative, unsigned, ofDigits, ofNumber, spelled, field, signed}
+use Rattle.rules.specs.Lines.{moment, lineOf}
+use Rattle.rules.specs.Times.{decimalBefore, decimal, newline, ended}
+use Rattle.laws.specs.Decimal.{lastDigits}
+use Rattle.laws.specs.SampleNight.{evening, here, utNow, ttNow, evening-is, tonight, night-is}
+use Rattle.laws.specs.SamplePlace.{sirius, equinox, siriusPlace, equinoxPlace, sirius-stands, equinox-stands}
+use Rattle.line_asked.specs.declared.Asked.{Asked}
+use Rattle.line_asked.specs.Asking.{lengthBefore, firstWord, afterWord, ofSite, siteIn}
+use Rattle.line_asked.specs.Asking.{withSite, askedIn, momentEnd, askedOf}
+use Rattle.sexagesimal.specs.Sexagesimal.{marked, clock, sexagesimal, roundIn, hours, bearing, signOf, elevation}
+use Rattle.line_entries.specs.EntryLine.{plainAngles, peopleAngles, entryLine}
+use Rattle.line_places.specs.Answers.{Begun, begunIn, begunFor, begunOf, begun, starLine, answerLine}
+use Rattle.line_places.specs.Program.{header, entryLines, answerLines, firstLine, places}
+
+-- `2026-03-20 20:00:00.000 0 180316000000 51915000000`
+abbrev pub sampleInput : List ℕ
+sampleInput =
+    50 ∷ 48 ∷ 50 ∷ 54 ∷ 45 ∷ 48 ∷ 51 ∷ 45 ∷ 50 ∷ 48 ∷ 32 ∷ 50 ∷ 48 ∷ 58 ∷ 48 ∷ 48 ∷ 58 ∷ 48 ∷ 48 ∷ 46 ∷ 48 ∷ 48
+    ∷ 48 ∷ 32 ∷ 48 ∷ 32 ∷ 49 ∷ 56 ∷ 48 ∷ 51 ∷ 49 ∷ 54 ∷ 48 ∷ 48 ∷ 48 ∷ 48 ∷ 48 ∷ 48 ∷ 32 ∷ 53 ∷ 49 ∷ 57 ∷ 49 ∷ 53
+    ∷ 48 ∷ 48 ∷ 48 ∷ 48 ∷ 48 ∷ 48 ∷ 10 ∷ []
+
+abbrev pub sampleFile : List ℕ
+sampleFile = fileOf (sirius ∷ equinox ∷ [])
+
+-- `0 0 365681449792 -60318875478 760999641899 63789202431`, `1 0 1196121190 519770523 1098507906186 -91944707618`
+abbrev pub sampleOutput : List ℕ
+sampleOutput = header ++ newline ∷
+    48 ∷ 32 ∷ 48 ∷ 32 ∷ 51 ∷ 54 ∷ 53 ∷ 54 ∷ 56 ∷ 49 ∷ 52 ∷ 52 ∷ 57 ∷ 55 ∷ 57 ∷ 50 ∷ 32 ∷ 45 ∷ 54 ∷ 48 ∷ 51 ∷ 49
+    ∷ 56 ∷ 56 ∷ 55 ∷ 53 ∷ 52 ∷ 55 ∷ 56 ∷ 32 ∷ 55 ∷ 54 ∷ 48 ∷ 57 ∷ 57 ∷ 57 ∷ 54 ∷ 52 ∷ 49 ∷ 56 ∷ 57 ∷ 57 ∷ 32 ∷ 54
+    ∷ 51 ∷ 55 ∷ 56 ∷ 57 ∷ 50 ∷ 48 ∷ 50 ∷ 52 ∷ 51 ∷ 49 ∷ 10 ∷ 49 ∷ 32 ∷ 48 ∷ 32 ∷ 49 ∷ 49 ∷ 57 ∷ 54 ∷ 49 ∷ 50 ∷ 49
+    ∷ 49 ∷ 57 ∷ 48 ∷ 32 ∷ 53 ∷ 49 ∷ 57 ∷ 55 ∷ 55 ∷ 48 ∷ 53 ∷ 50 ∷ 51 ∷ 32 ∷ 49 ∷ 48 ∷ 57 ∷ 56 ∷ 53 ∷ 48 ∷ 55 ∷ 57
+    ∷ 48 ∷ 54 ∷ 49 ∷ 56 ∷ 54 ∷ 32 ∷ 45 ∷ 57 ∷ 49 ∷ 57 ∷ 52 ∷ 52 ∷ 55 ∷ 48 ∷ 55 ∷ 54 ∷ 49 ∷ 56 ∷ 10 ∷ []
+
+-- `0 0 06:46:18.76 -16:45:18.9 211:23:19.6 +17:43:09.2`, `1 0 00:01:19.74 +00:08:39.8 305:08:27.9 -25:32:24.7`
+abbrev pub peopleOutput : List ℕ
+peopleOutput = header ++ newline ∷
+    48 ∷ 32 ∷ 48 ∷ 32 ∷ 48 ∷ 54 ∷ 58 ∷ 52 ∷ 54 ∷ 58 ∷ 49 ∷ 56 ∷ 46 ∷ 55 ∷ 54 ∷ 32 ∷ 45 ∷ 49 ∷ 54 ∷ 58 ∷ 52 ∷ 53
+    ∷ 58 ∷ 49 ∷ 56 ∷ 46 ∷ 57 ∷ 32 ∷ 50 ∷ 49 ∷ 49 ∷ 58 ∷ 50 ∷ 51 ∷ 58 ∷ 49 ∷ 57 ∷ 46 ∷ 54 ∷ 32 ∷ 43 ∷ 49 ∷ 55 ∷ 58
+    ∷ 52 ∷ 51 ∷ 58 ∷ 48 ∷ 57 ∷ 46 ∷ 50 ∷ 10 ∷ 49 ∷ 32 ∷ 48 ∷ 32 ∷ 48 ∷ 48 ∷ 58 ∷ 48 ∷ 49 ∷ 58 ∷ 49 ∷ 57 ∷ 46 ∷ 55
+    ∷ 52 ∷ 32 ∷ 43 ∷ 48 ∷ 48 ∷ 58 ∷ 48 ∷ 56 ∷ 58 ∷ 51 ∷ 57 ∷ 46 ∷ 56 ∷ 32 ∷ 51 ∷ 48 ∷ 53 ∷ 58 ∷ 48 ∷ 56 ∷ 58 ∷ 50
+    ∷ 55 ∷ 46 ∷ 57 ∷ 32 ∷ 45 ∷ 50 ∷ 53 ∷ 58 ∷ 51 ∷ 50 ∷ 58 ∷ 50 ∷ 52 ∷ 46 ∷ 55 ∷ 10 ∷ []
+
+-- ---- the night and the places
+
+night-tonight : nightOf evening here ≡ Prepared.For tonight
+unfolding nightOf nightAt siteRefused between within
+night-tonight = ap (λ i. nightAt i here) evening-is ∙ ap Prepared.For night-is
+
+answered : (s : Star) → starRefused s ≡ false
+    → placeAt (Instants.At utNow ttNow) s here ≡ Placed.At (placeIn (night utNow ttNow here) s)
+unfolding placeAt siteRefused between within
+answered s h = rw h
+
+stood : (s : Star) (p : Place) → starRefused s ≡ false → place evening s here ≡ Placed.At p → placeIn tonight s ≡ p
+unfolding place
+stood s p h e =
+    let q : Placed.At (placeIn tonight s) ≡ Placed.At p =
+    sym (ap (λ i. placeAt i s here) evening-is ∙ answered s h ∙ ap (λ n. Placed.At (placeIn n s)) night-is) ∙ e in
+    cc
+
+-- ---- what the file and the line come to
+
+file-counts : listCount sampleFile ≡ Listed.Count 2
+unfolding listCount markRefused countRefused anyRefused starRefused between within countIn stars starsIn fileLength
+    starIn recordOf fileOf ofBytes bytesOf signedOf unsignedOf part unsignedAt signedAt signedBytes sameBytes
+file-counts = refl
+
+line-asks : askedOf (firstLine sampleInput) ≡ Asked.For evening here
+unfolding askedOf askedIn withSite ofSite siteIn firstWord afterWord momentEnd lengthBefore firstLine isDigit alike
+    ofForm negative unsigned ofDigits ofNumber spelled field signed moment lineOf
+line-asks = refl
+
+begins : begun sampleFile (firstLine sampleInput) ≡ Begun.For 2 tonight
+unfolding begun begunOf begunFor begunIn
+begins = rw (file-counts, line-asks, night-tonight)
+
+-- ---- the lines
+
+-- the line of a star that is read, by its place
+line-is : (people : Bool) (index : ℕ) (s : Star) (p : Place) → listStar sampleFile index ≡ ListedStar.Of s
+    → starRefused s ≡ false → placeIn tonight s ≡ p
+    → answerLine people sampleFile tonight index ≡ entryLine people index (record { star = s; mark = 0; place = p })
+unfolding answerLine starLine worked freshEntry
+line-is people index s p e h f = rw (e, h, f)
+
+first-star : listStar sampleFile 0 ≡ ListedStar.Of sirius
+unfolding listStar starAt starIn recordOf fileOf fileLength ofBytes bytesOf signedOf unsignedOf part unsignedAt signedAt
+    signedBytes
+first-star = rw file-counts
+
+second-star : listStar sampleFile 1 ≡ ListedStar.Of equinox
+unfolding listStar starAt starIn recordOf fileOf fileLength ofBytes bytesOf signedOf unsignedOf part unsignedAt signedAt
+    signedBytes
+second-star = rw file-counts
+
+-- all that is printed, by the two lines
+printed : (people : Bool) → places people sampleFile sampleInput ≡ ended (header
+    ∷ entryLine people 0 (record { star = sirius; mark = 0; place = siriusPlace })
+    ∷ entryLine people 1 (record { star = equinox; mark = 0; place = equinoxPlace }) ∷ [])
+unfolding places answerLines entryLines starRefused between within
+printed people = rw (
+  begins,
+  line-is people 0 sirius siriusPlace first-star refl (stood sirius siriusPlace refl sirius-stands),
+  line-is people 1 equinox equinoxPlace second-star refl (stood equinox equinoxPlace refl equinox-stands),
+)
+
+pub sample : places false sampleFile sampleInput ≡ sampleOutput
+unfolding ended entryLine plainAngles decimal decimalBefore
+sample = printed false
+
+pub sample-for-people : places true sampleFile sampleInput ≡ peopleOutput
+unfolding ended entryLine peopleAngles hours bearing elevation roundIn signOf sexagesimal clock marked lastDigits rnd
+    rndSize modulo decimal decimalBefore
+sample-for-people = printed true

@@ -1,2 +1,0 @@
--- What the clauses of `octants` cite.
-pub mod Given

@@ -1,0 +1,2 @@
+-- What the clauses of `reading` cite.
+pub mod Given

@@ -1,0 +1,2 @@
+-- What the proofs share, of every row.
+pub mod Stages

@@ -1,2 +1,0 @@
--- What the contracts of inner functions cite beside the rules.
-pub mod Plans

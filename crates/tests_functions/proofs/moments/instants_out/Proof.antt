@@ -1,0 +1,35 @@
+-- `tests_functions::moments::instants_out` meets its contract.
+use mathlib.Core.Path.{_≡_, _∙_}
+use borrow.Author.Needs.{needs}
+use mir.Syntax.{w64}
+use mir.Val.{toZ, ofZ}
+use Rattle.rules.specs.Refusals.{given, refused}
+use Rattle.rules.specs.Answers.{instantsAnswer}
+use Rattle.words.specs.Fits.{held64}
+use Rattle.tests_functions.specs.Dates.{testsInstants}
+use Rattle.tests_functions.proofs.moments.instants_out.Statement.{statement}
+use Rattle.tests_functions.proofs.moments.instants_out.Tie as tie
+
+enum-known-a : tie.Need-enum-known-a
+enum-known-a c = search needs
+
+enum-known-a-2 : tie.Need-enum-known-a-2
+enum-known-a-2 c = search needs
+
+number-requires : tie.Need-number-requires
+number-requires c κs = search needs
+
+returns : tie.Need-returns
+unfolding testsInstants instantsAnswer given
+returns c =
+    let v = c .before .before .before .a .given .0 in
+    let ut-held : toZ w64 (ofZ w64 (v .0 .0)) ≡ v .0 .0 = search needs in
+    let tt-held : toZ w64 (ofZ w64 (v .1 .0 .0)) ≡ v .1 .0 .0 = search needs in
+    rw (c .before .before .before .a .given .1, ut-held, tt-held)
+
+returns-2 : tie.Need-returns-2
+unfolding testsInstants instantsAnswer refused
+returns-2 c = rw (c .before .before .a2 .given .1, held64 (c .number .result) (c .number .ok) ∙ c .number .ensures)
+
+pub instants-out-spec : {M : Type 1} → statement M
+instants-out-spec = tie.close (tie.spec enum-known-a enum-known-a-2 number-requires returns returns-2)
