@@ -5,7 +5,6 @@ use rules::Pair;
 use rules::Ut;
 use units::CIRCLE;
 use units::QUARTER;
-use units::UNIT;
 ghost use mathlib.Core.Path.{_≡_};
 ghost use Prim.Native.Nat.{_≤_, _^_};
 ghost use lib.IntN.{ℤ, pos, negℤ, natAbs, _-ℤ_, _*ℤ_};
@@ -36,7 +35,7 @@ fn scaled(k: i64, part: i64) -> i64
     requires { ⌜ ScaledFits k part ⌝ }
     ensures { λ r. ⌜ r ≡ rnd (k *ℤ part) unit ⌝ }
 {
-    rounding::rnd_quotient(k * part, UNIT)
+    rounding::rnd_by_unit(k * part)
 }
 
 // 4. What aberration adds, of the pairs of the Sun's longitude and of ε.
