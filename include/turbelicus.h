@@ -1,13 +1,15 @@
-/* Turbelicus: the apparent place of a star, turns of a direction, the reading of an angle, and the star list file.
+/* Turbelicus: the apparent place of a star, its altitude as the air lifts it, turns of a direction, the reading of an
+ * angle, and the star list file.
  *
- * Every function answers every number and every byte that it is given: there is none that C must test first. It keeps
- * nothing from one call to the next, so that calls may go on side by side.
+ * Every function answers every number, every float and every byte that it is given: there is none that C must test first.
+ * It keeps nothing from one call to the next, so that calls may go on side by side.
  *
  * Units: angles in microarcseconds (the circle is 1,296,000,000,000), motions in microarcseconds a year, parts of a
- * direction in parts of 2^30.
+ * direction in parts of 2^30, pressure in hPa, temperature in degrees Celsius.
  *
  * Refusals. An answer that may be refused is a struct. Its `refused` is 0 and the other fields are the answer; or it is
- * the number of the first of these that applies, and the other fields are 0 and no byte that was lent has changed.
+ * the number of the first of these that applies, and the other fields are 0 (of turbelicus_weather alone, the record as it
+ * came) and no byte that was lent has changed.
  *
  *    1  year not 1972 to 2099
  *    2  no such month or day
@@ -23,6 +25,8 @@
  *   11  more than 64 stars given, or room too small for the file; no such record; or a star without all its numbers
  *   12  instant outside a century of J2000, and
  *   13  length to be divided by is nought: no function here answers with these two
+ *   14  weather: a reading not accepted, pressure not 500 to 1,100 hPa or temperature not -50 to 50 degrees, or no such kind
+ *       of reading; after all others
  *
  * What C must keep. A pointer goes with its own length: so many elements are there to be read, or written where it is not
  * const. It is null only with length 0. The room that is written overlaps nothing else that the same call is lent. */
@@ -52,6 +56,63 @@ struct turbelicus_placed turbelicus_place(int32_t year, int32_t month, int32_t d
                                           int32_t second, int32_t ms, int32_t ut1_minus_utc, int64_t latitude,
                                           int64_t longitude, int64_t ra, int64_t declination, int32_t ra_motion,
                                           int32_t declination_motion);
+
+/* The weather record: the latest pressure and the latest air temperature that a probe has handed over, and whether each
+ * has come. C keeps it and lends its four numbers to each call, which looks at them again.
+ *
+ * It begins as all noughts. A flag is set where it is not 0, and is answered as 0 or 1. A float whose flag is not set is not
+ * looked at, and is answered as 1010 hPa or 10 degrees, the weather that the rule of the lift is made for. One whose flag is
+ * set must be accepted, as a reading must: finite, 500 to 1,100 hPa or -50 to 50 degrees, ends included, -0.0 too. A record
+ * that began as all noughts and is kept as it is answered always is. */
+struct turbelicus_weathered {
+    int64_t refused;
+    float pressure, temperature;
+    int32_t has_pressure, has_temperature;
+};
+
+/* What the probe hands over: nothing, a pressure in hPa, or an air temperature in degrees. */
+#define TURBELICUS_NOTHING 0
+#define TURBELICUS_PRESSURE 1
+#define TURBELICUS_TEMPERATURE 2
+
+/* The weather record with one more reading of the probe.
+ *
+ * Given: the record; the kind of the reading, one of the three above; the reading, which is not looked at where there is
+ * nothing.
+ * Returned: the record with the reading in it.
+ * Refused: 14. The record then comes back as it was, its flags as 0 or 1 and a NaN as any NaN: C may keep every answer. */
+struct turbelicus_weathered turbelicus_weather(float pressure, float temperature, int32_t has_pressure,
+                                               int32_t has_temperature, int32_t kind, float reading);
+
+struct turbelicus_altitude {
+    int64_t refused, altitude;
+};
+
+/* The observed altitude: a true altitude, as turbelicus_place gives it, with its lift by the air.
+ *
+ * Given: the altitude, any number; the weather record.
+ * Returned: the altitude and its lift, which is never below 0; it is 0 until both readings have come, below -3,600,000,000
+ * and above 324,000,000,000. An altitude within 324,000,000,000 stays within it.
+ * Refused: 14. */
+struct turbelicus_altitude turbelicus_observed_altitude(int64_t altitude, float pressure, float temperature,
+                                                        int32_t has_pressure, int32_t has_temperature);
+
+struct turbelicus_observed {
+    int64_t refused, ra, declination, azimuth, altitude, observed_altitude;
+};
+
+/* The place of a star as turbelicus_place gives it, and its observed altitude.
+ *
+ * Given: what turbelicus_place is given, then the weather record.
+ * Returned: the four angles of turbelicus_place, the altitude the true one; and that altitude with its lift by the air, as
+ * turbelicus_observed_altitude gives it, within 324,000,000,000.
+ * Refused: 1 to 6, then 14. */
+struct turbelicus_observed turbelicus_observed_place(int32_t year, int32_t month, int32_t day, int32_t hour,
+                                                     int32_t minute, int32_t second, int32_t ms, int32_t ut1_minus_utc,
+                                                     int64_t latitude, int64_t longitude, int64_t ra,
+                                                     int64_t declination, int32_t ra_motion,
+                                                     int32_t declination_motion, float pressure, float temperature,
+                                                     int32_t has_pressure, int32_t has_temperature);
 
 struct turbelicus_turned {
     int64_t refused, x, y, z;

@@ -81,7 +81,7 @@ done
 promises() {
     sed -n '/^## Demands/,/^## Exceptions/p' $page | awk '
         /^#/ { if (heading != "") print heading "\t" labels "\t" tried; heading = labels = label = tried = "" }
-        /^### (D[1-3][a-e]?|One|[0-9]+)[.] / { heading = substr($0, 5) }
+        /^### (D[1-3][a-e]?|One|[0-9]+|C-[0-9]+[a-z])[.] / { heading = substr($0, 5) }
         /^- / { label = $2; labels = labels label }
         label == "Edits:" { tried = tried $0 }'
 }
@@ -186,5 +186,5 @@ done < <(section Exceptions | sed -nE 's/^- `([a-z0-9_:]+)`: .*/\1/p')
 printf '%d names, %d sentences; %d source files, %d public functions with their theorem, %d inside, %d exceptions,' \
     "$looked" "$sentences" "$files" "$alone" "$inside" "$exceptions"
 printf ' %d for C; %d missing\n' "$called" "$missing"
-[ "$missing" -eq 0 ] && [ "$looked" -gt 200 ] && [ "$sentences" -gt 60 ] && [ "$files" -gt 80 ] \
+[ "$missing" -eq 0 ] && [ "$looked" -gt 200 ] && [ "$sentences" -gt 70 ] && [ "$files" -gt 80 ] \
     && [ "$alone" -gt 90 ] && [ "$called" -gt 20 ]

@@ -7,6 +7,10 @@ The exports are the `#[no_mangle] pub extern "C" fn` of the crates that tests/ex
 structs that they answer or lend. include/turbelicus.h, tests/c/tests_exports.h, tests/c/driver.c and tests/bridge/src/face.rs
 must say the same of each: names, number, order and types of the parameters, the answer, the fields of every struct. It
 exits 1 where one does not.
+
+The driver and the face pass 64-bit words: a float is the word of its 32 bits, and two fields of 32 bits are one word. That
+word is named by both: by the last word of their names where it is the same (ra_motion and declination_motion are motions),
+else by the two names joined (pressure_and_temperature).
 """
 import pathlib
 import re
@@ -26,8 +30,11 @@ LENT = re.compile(
     r'name: "(\w+)",\s*given: \[(.*?)\],\s*answered: \[(.*?)\],\s*room: Room::(\w+),'
     r'.*?extern "C" \{\s*fn (\w+)\((.*?)\) -> ', re.S
 )
-C_TYPES = {"i64": "int64_t", "i32": "int32_t", "u8": "uint8_t", "usize": "size_t"}
-WORDS = {"i64": "given[{}]", "i32": "narrow(given[{}])", "usize": "(size_t)given[{}]"}
+C_TYPES = {"i64": "int64_t", "i32": "int32_t", "u8": "uint8_t", "usize": "size_t", "f32": "float"}
+WORDS = {
+    "i64": "given[{}]", "i32": "narrow(given[{}])", "usize": "(size_t)given[{}]", "f32": "float_of(given[{}])"
+}
+HALF_WORDS = ["i32", "f32"]
 
 Fields = list[tuple[str, str]]
 
@@ -147,17 +154,26 @@ def driver_rows() -> dict[str, str]:
     return {name: one_line(rest) for name, rest in rows}
 
 
-def words_of(fields: Fields) -> list[str]:
-    """The names of an answer's words: two fields of 32 bits share one, by the last word of their names."""
-    words, halves = [], []
-    for name, kind in fields:
-        if kind != "i32":
-            words.append(name)
-        elif halves:
-            words.append(halves.pop().rsplit("_", 1)[-1] + "s")
-        else:
-            halves.append(name)
+def words_of(answer: str, fields: Fields) -> list[str]:
+    """The names of an answer's words."""
+    words, rest = [], list(fields)
+    while rest:
+        name, kind = rest.pop(0)
+        if kind in HALF_WORDS:
+            other, other_kind = rest.pop(0) if rest else ("", "")
+            if other_kind not in HALF_WORDS:
+                sys.exit(f"{answer}: {name} is half a word by itself")
+            name = name_of_both(name, other)
+        words.append(name)
+    # so short a struct comes back in registers, and its floats in others than those of words
+    if len(words) < 3 and any(kind == "f32" for _, kind in fields):
+        sys.exit(f"{answer}: a float in an answer of less than three words")
     return words
+
+
+def name_of_both(first: str, second: str) -> str:
+    last = first.rsplit("_", 1)[-1]
+    return f"{last}s" if second.rsplit("_", 1)[-1] == last else f"{first}_and_{second}"
 
 
 def rust_parameters(name: str, kind: str) -> list[str]:
@@ -174,7 +190,7 @@ def face_of(export: Export, known: dict[str, Fields]) -> str:
     parameters = [part for parameter in export.parameters for part in rust_parameters(*parameter)]
     given = [part for part, kind in export.parameters if not SLICE.match(kind)]
     # an answer that is one number has no name in the source
-    answered = words_of(known[export.answer]) if export.answer in known else ["_"]
+    answered = words_of(export.answer, known[export.answer]) if export.answer in known else ["_"]
     room = "Entries" if any(kind == "&mut [Entry]" for _, kind in export.parameters) else "Bytes"
     return said(", ".join(parameters), given, answered, room)
 

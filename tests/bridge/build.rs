@@ -3,7 +3,7 @@
 use std::path::PathBuf;
 use std::{env, fs};
 
-const SUBJECTS: [&str; 10] = [
+const SUBJECTS: [&str; 11] = [
     "whole",
     "circle",
     "turning",
@@ -11,6 +11,7 @@ const SUBJECTS: [&str; 10] = [
     "dates",
     "earth",
     "place",
+    "weather",
     "list_file",
     "entries",
     "night_list",

@@ -30,6 +30,15 @@ static int32_t narrow(int64_t word) {
     return (int32_t)word;
 }
 
+/* A word for a float: its bits. */
+static float float_of(int64_t word) {
+    if (word < 0 || word > UINT32_MAX) fail("a float", "has 32 bits");
+    uint32_t bits = (uint32_t)word;
+    float number;
+    memcpy(&number, &bits, sizeof number);
+    return number;
+}
+
 /* Every exported function: its name, how many words it is given, the type of its answer, and what it is called with. */
 #define FUNCTIONS(FUNCTION)                                                                                            \
     FUNCTION(tests_rnd_quotient, 2, struct tests_tried, given[0], given[1])                                            \
@@ -56,6 +65,14 @@ static int32_t narrow(int64_t word) {
     FUNCTION(turbelicus_place, 14, struct turbelicus_placed, narrow(given[0]), narrow(given[1]), narrow(given[2]),     \
              narrow(given[3]), narrow(given[4]), narrow(given[5]), narrow(given[6]), narrow(given[7]), given[8],       \
              given[9], given[10], given[11], narrow(given[12]), narrow(given[13]))                                     \
+    FUNCTION(turbelicus_weather, 6, struct turbelicus_weathered, float_of(given[0]), float_of(given[1]),               \
+             narrow(given[2]), narrow(given[3]), narrow(given[4]), float_of(given[5]))                                 \
+    FUNCTION(turbelicus_observed_altitude, 5, struct turbelicus_altitude, given[0], float_of(given[1]),                \
+             float_of(given[2]), narrow(given[3]), narrow(given[4]))                                                   \
+    FUNCTION(turbelicus_observed_place, 18, struct turbelicus_observed, narrow(given[0]), narrow(given[1]),            \
+             narrow(given[2]), narrow(given[3]), narrow(given[4]), narrow(given[5]), narrow(given[6]),                 \
+             narrow(given[7]), given[8], given[9], given[10], given[11], narrow(given[12]), narrow(given[13]),         \
+             float_of(given[14]), float_of(given[15]), narrow(given[16]), narrow(given[17]))                           \
     FUNCTION(turbelicus_list_count, 0, struct turbelicus_counted, call->read, call->read_length)                       \
     FUNCTION(turbelicus_list_star, 1, struct turbelicus_starred, call->read, call->read_length, (size_t)given[0])      \
     FUNCTION(turbelicus_list_write, 0, struct turbelicus_written, call->read, call->read_length / sizeof(int64_t),     \

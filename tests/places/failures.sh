@@ -49,6 +49,7 @@ failing() { # failing NAME [WORD ..]: one run, with the standard input and outpu
     failing 'half the word' one sexagesima <line
     failing 'a word of 5,000 bytes' one "$(head -c 5000 /dev/zero | tr '\0' a)" <line
     failing 'three words' one sexagesimal now <line
+    failing 'a temperature of 5,000 bytes' one 1013 "$(head -c 5000 /dev/zero | tr '\0' 1)" <line
 
     # none of these: what follows the line is left for whoever reads on
     { failing 'two lines' one && cat; } < <(cat line; echo 'the second line')

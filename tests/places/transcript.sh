@@ -27,6 +27,42 @@ while IFS= read -r text; do
     printf '%s\n' "$text" | answered "$text, for people" "$bright" sexagesimal
 done <"$top/tests/places/lines.in"
 
+# with pressure and temperature, and with a pressure that is refused: 14 after 0 to 4 and 6
+while IFS= read -r text; do
+    printf '%s\n' "$text" | answered "$text, 1013.2 hPa, -10.5 degrees" "$bright" 1013.2 -10.5
+    printf '%s\n' "$text" | answered "$text, 1100.1 hPa" "$bright" 1100.1 0
+done <"$top/tests/places/lines.in"
+
+# both ends of both ranges, and one beyond
+while read -r pressure temperature; do
+    name="$pressure hPa, $temperature degrees"
+    echo "$line" | answered "$name" "$bright" "$pressure" "$temperature"
+    echo "$line" | answered "$name, for people" "$bright" sexagesimal "$pressure" "$temperature"
+done <<'ENDS'
+500 0
+499.9 0
+1100 0
+1100.1 0
+1013 -50
+1013 -50.1
+1013 50
+1013 50.1
+500 50
+1100 -50
+ENDS
+
+# forms of a word, as pressure and as temperature: those that are one, and those that are none
+for word in 0 00 0000 -0 0.0 -0.0 0.5 -0.5 0010 0010.5 9999.9 -9999.9; do
+    echo "$line" | answered "pressure $word" "$bright" "$word" 0
+    echo "$line" | answered "temperature $word" "$bright" 1013 "$word"
+done
+for word in '' - . -. .5 -.5 5. -5. 5.55 10.10 00000 10000.5 +5 --5 -5- 5- 1,5 1.a a.1 a 1..5 1.2.3 ' 5' '5 ' 5e1 \
+    0x5 nan inf 1_0 999.99 sexagesimal; do
+    echo "$line" | answered "pressure '$word'" "$bright" "$word" 0
+    echo "$line" | answered "temperature '$word'" "$bright" 1013 "$word"
+    echo "$line" | answered "temperature '$word', for people" "$bright" sexagesimal 1013 "$word"
+done
+
 # standard input
 printf '%s' "$line" | answered 'a line without its end' "$bright"
 printf '%s\nmore\n' "$line" | answered 'a second line' "$bright"
@@ -53,6 +89,14 @@ bytes 'SLT\1\0\2\0' 1 >"$work/file"; try 'a record too few'
 { bytes 'SLT\1\0\2\0' 1; head -c 24 /dev/zero | tr '\0' '\377'; } >"$work/file"; try 'a star that is refused'
 { bytes 'SLT\1\0\100\0' 64; head -c 100000000 /dev/zero; } >"$work/file"; try '100 million bytes'
 head -c 100000000 /dev/zero >"$work/file"; try '100 million noughts'
+# and 14 after them
+bytes 'SLU\1\0\0\0' >"$work/file"; echo "$line" | answered 'another mark, 0 hPa' "$work/file" 0 0
+bytes 'SLT\1\0\101\0' 65 >"$work/file"; echo "$line" | answered '65 entries, 0 hPa' "$work/file" 0 0
+{ bytes 'SLT\1\0\2\0' 1; head -c 24 /dev/zero | tr '\0' '\377'; } >"$work/file"
+echo "$line" | answered 'a star that is refused, 0 hPa' "$work/file" 0 0
+bytes 'SLT\1\0\0\0' >"$work/file"; echo "$line" | answered 'no entry, 0 hPa' "$work/file" 0 0
+echo "$line" | answered 'no entry, 1000 hPa' "$work/file" 1000 0
+bytes 'SLT\1\0\100\0' 64 >"$work/file"; echo "$line" | answered '64 entries, 1000 hPa' "$work/file" 1000 0
 rm "$work/file"
 
 # the shell
@@ -63,4 +107,9 @@ echo "$line" | answered 'a directory' "$work"
 echo "$line" | answered 'another word' "$bright" degrees
 echo "$line" | answered 'half the word' "$bright" sexagesima
 echo "$line" | answered 'three words' "$bright" sexagesimal now
+echo "$line" | answered 'pressure alone' "$bright" 1013
+echo "$line" | answered 'pressure alone, for people' "$bright" sexagesimal 1013
+echo "$line" | answered 'the word last' "$bright" 1013 0 sexagesimal
+echo "$line" | answered 'another word, pressure and temperature' "$bright" degrees 1013 0
+echo "$line" | answered 'a word too many' "$bright" sexagesimal 1013 0 0
 echo "$line" | answered 'a long name' "$(head -c 5000 /dev/zero | tr '\0' a)"

@@ -1,7 +1,15 @@
 -- The structs that C gets: the paper's number and values in their order. Definitions only.
+use mathlib.Core.Bool.{cond}
 use lib.ListN.{getD}
-use lib.IntN.{pos, natAbs}
+use lib.IntN.{ℤ, pos, natAbs}
+use Rattle.rules.specs.declared.Weather.{Weather}
+use Rattle.rules.specs.declared.Weathered.{Weathered}
+use Rattle.rules.specs.Units.{same}
 use Rattle.rules.specs.Refusals.{Answer}
+use Rattle.rules.specs.Answers.{weatheredNumber, weatheredRecord}
+use Rattle.answers.specs.declared.probe.TurbelicusWeathered.{TurbelicusWeathered}
+use Rattle.answers.specs.declared.observed.TurbelicusAltitude.{TurbelicusAltitude}
+use Rattle.answers.specs.declared.observed.TurbelicusObserved.{TurbelicusObserved}
 use Rattle.answers.specs.declared.places.TurbelicusPlaced.{TurbelicusPlaced}
 use Rattle.answers.specs.declared.turns.TurbelicusTurned.{TurbelicusTurned}
 use Rattle.answers.specs.declared.lists.TurbelicusCounted.{TurbelicusCounted}
@@ -40,3 +48,53 @@ countedOut a = record { refused = pos (a .number); count = natAbs (getD (a .valu
 
 unfoldable pub writtenOut : Answer → TurbelicusWritten
 writtenOut a = record { refused = pos (a .number); length = natAbs (getD (a .values) 0 (pos 0)) }
+
+unfoldable pub altitudeOut : Answer → TurbelicusAltitude
+altitudeOut a = record { refused = pos (a .number); altitude = getD (a .values) 0 (pos 0) }
+
+unfoldable pub observedOut : Answer → TurbelicusObserved
+observedOut a = record {
+  refused = pos (a .number);
+  ra = getD (a .values) 0 (pos 0);
+  declination = getD (a .values) 1 (pos 0);
+  azimuth = getD (a .values) 2 (pos 0);
+  altitude = getD (a .values) 3 (pos 0);
+  «observed_altitude» = getD (a .values) 4 (pos 0);
+}
+
+-- a place and the observed altitude of it, as C gets them: the place's refusal first, then the other
+unfoldable pub noneObserved : ℤ → TurbelicusObserved
+noneObserved number = record {
+  refused = number;
+  ra = pos 0;
+  declination = pos 0;
+  azimuth = pos 0;
+  altitude = pos 0;
+  «observed_altitude» = pos 0;
+}
+
+unfoldable pub besideOut : TurbelicusPlaced → TurbelicusAltitude → TurbelicusObserved
+besideOut p seen =
+    let both : TurbelicusObserved = record {
+      refused = pos 0;
+      ra = p .ra;
+      declination = p .declination;
+      azimuth = p .azimuth;
+      altitude = p .altitude;
+      «observed_altitude» = seen .altitude;
+    } in
+    cond (same (p .refused) (pos 0)) (cond (same (seen .refused) (pos 0)) both (noneObserved (seen .refused)))
+    (noneObserved (p .refused))
+
+-- the number, and the record with its flags as 0 or 1
+unfoldable pub recordOut : ℤ → Weather → TurbelicusWeathered
+recordOut number w = record {
+  refused = number;
+  pressure = w .pressure;
+  temperature = w .temperature;
+  «has_pressure» = cond (w .«has_pressure») (pos 1) (pos 0);
+  «has_temperature» = cond (w .«has_temperature») (pos 1) (pos 0);
+}
+
+unfoldable pub weatheredOut : Weathered → TurbelicusWeathered
+weatheredOut a = recordOut (pos (weatheredNumber a)) (weatheredRecord a)

@@ -2,5 +2,7 @@
 // values.
 
 pub mod lists;
+pub mod observed;
 pub mod places;
+pub mod probe;
 pub mod turns;

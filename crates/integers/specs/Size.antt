@@ -69,3 +69,10 @@ mag-le (negsuc n) = omega arith
 pub mag-neg-le : (m n : ℕ) → m ≤ suc n → mag (negℤ (pos m)) ≤ n
 mag-neg-le zero n h = omega arith
 mag-neg-le (suc m) n h = omega arith
+
+-- how far two numbers are apart bounds either by the other
+pub abs-moved : (p q : ℤ) → natAbs p ≤ natAbs q + natAbs (p -ℤ q)
+abs-moved p q = omega (arith, sub-is p q, abs-is p, abs-is q, abs-is (p -ℤ q), parts-apart p, parts-apart q)
+
+pub abs-moved-back : (p q : ℤ) → natAbs q ≤ natAbs p + natAbs (p -ℤ q)
+abs-moved-back p q = omega (arith, sub-is p q, abs-is p, abs-is q, abs-is (p -ℤ q), parts-apart p, parts-apart q)

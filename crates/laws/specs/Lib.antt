@@ -50,9 +50,32 @@ pub mod Sun
 pub mod Sidereal
 pub mod Night
 pub mod Place
--- a night and two places worked out
+-- refraction: floats and their tenths, the weather record, the lift, the observed altitude
+pub mod FloatComparison
+pub mod Floats
+pub mod FloatParts
+pub mod Tenths
+pub mod Weather
+pub mod WeatherAnswers
+pub mod WeatherOfC
+pub mod Sines
+pub mod RefractionArgument
+pub mod Refraction
+pub mod Air
+pub mod ObservedAltitude
+-- the order of observed altitudes: how sine, cosine and lift step
+pub mod SineSteps
+pub mod LengthSteps
+pub mod PairSteps
+pub mod QuarterSteps
+pub mod LiftSteps
+pub mod StandardSteps
+pub mod Order
+pub mod OrderLeast
+-- a night, two places and an observed altitude worked out
 pub mod SampleNight
 pub mod SamplePlace
+pub mod SampleObserved
 -- tests: computed at each number below a bound; of ranges
 pub mod Every
 pub mod Ranges

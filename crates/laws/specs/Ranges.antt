@@ -2,11 +2,11 @@
 use mathlib.Core.Path.{_≡_, refl, sym}
 use mathlib.Core.Bool.{Bool, true, false, not, _&&_}
 use mathlib.Core.Logic.{_↔_}
-use Prim.Native.Nat.{ℕ, _+_, _≤_}
+use Prim.Native.Nat.{ℕ, _+_, _≤_, _<_}
 use native.Mathlib.Omega.{arith}
-use lib.Dec.{T, le→leb}
+use lib.Dec.{T, le→leb, lt→ltb}
 use lib.IntN.{ℤ, pos, negsuc, natAbs}
-use lib.Signed.{ltZ, _≤ℤ_}
+use lib.Signed.{ltZ, _≤ℤ_, _<ℤ_}
 use borrow.Author.Tests.{le-ltb}
 use Rattle.integers.specs.Difference.{posPart, negPart, leZ-true}
 use Rattle.rules.specs.Units.{same, between}
@@ -56,6 +56,12 @@ le-of-sizes (pos a) (pos b) h = record { le = le→leb a b (omega arith) }
 le-of-sizes (pos a) (negsuc b) h = absurd (omega arith)
 le-of-sizes (negsuc a) (pos b) h = record { le = tt }
 le-of-sizes (negsuc a) (negsuc b) h = record { le = le→leb b a (omega arith) }
+
+pub lt-of-sizes : (x y : ℤ) → posPart x + negPart y < posPart y + negPart x → x <ℤ y
+lt-of-sizes (pos a) (pos b) h = record { lt = lt→ltb a b (omega arith) }
+lt-of-sizes (pos a) (negsuc b) h = absurd (omega arith)
+lt-of-sizes (negsuc a) (pos b) h = record { lt = tt }
+lt-of-sizes (negsuc a) (negsuc b) h = record { lt = lt→ltb b a (omega arith) }
 
 pub not-lt : (x y : ℤ) → posPart x + negPart y ≤ posPart y + negPart x → ltZ y x ≡ false
 not-lt (pos a) (pos b) h = le-ltb b a (omega arith)

@@ -11,7 +11,8 @@ use Rattle.rules.specs.Refusals.{number}
 abbrev pub refusals : List Refusal
 refusals =
     Refusal.Year ∷ Refusal.Day ∷ Refusal.Time ∷ Refusal.Ut1MinusUtc ∷ Refusal.Star ∷ Refusal.Site ∷ Refusal.Direction
-    ∷ Refusal.Turn ∷ Refusal.Mark ∷ Refusal.Count ∷ Refusal.Room ∷ Refusal.Instant ∷ Refusal.Length ∷ []
+    ∷ Refusal.Turn ∷ Refusal.Mark ∷ Refusal.Count ∷ Refusal.Room ∷ Refusal.Instant ∷ Refusal.Length
+    ∷ Refusal.Reading ∷ []
 
 abbrev refusalOf : ℕ → Refusal
 refusalOf n = getD refusals (n - 1) Refusal.Length
@@ -31,6 +32,7 @@ refusalOf-number Refusal.Count = refl
 refusalOf-number Refusal.Room = refl
 refusalOf-number Refusal.Instant = refl
 refusalOf-number Refusal.Length = refl
+refusalOf-number Refusal.Reading = refl
 
 pub number-one : (r s : Refusal) → number r ≡ number s → r ≡ s
 number-one r s e = sym (refusalOf-number r) ∙ ap refusalOf e ∙ refusalOf-number s
@@ -50,3 +52,4 @@ number-pos Refusal.Count = lit< tt
 number-pos Refusal.Room = lit< tt
 number-pos Refusal.Instant = lit< tt
 number-pos Refusal.Length = lit< tt
+number-pos Refusal.Reading = lit< tt

@@ -1,12 +1,13 @@
 -- What `rnd` is known by: its size, its sign, what it leaves over. `rnd-near` is what error bounds cite,
 -- `rnd-by-quotients` what code cites.
-use mathlib.Core.Path.{_≡_, refl, sym, ap, _∙_}
+use mathlib.Core.Path.{_≡_, refl, sym, ap, subst, _∙_}
 use Prim.Native.Nat.{ℕ, zero, suc, _+_, _*_, _-_, _/_, _%_, _≤_, _<_}
 use native.Mathlib.Nat.{div-eq-of-lt-le, div-add-mod', mod-lt, lt-div-mul-add, div-mul-le-self, div-lt-iff-lt-mul}
-use native.Mathlib.Nat.{mul-le-mul-left, le-mul-of-pos-right}
+use native.Mathlib.Nat.{mul-le-mul-left, mul-le-mul-right, le-mul-of-pos-right}
 use native.Mathlib.Omega.{arith}
 use lib.Dec.{ltb→lt}
 use lib.IntN.{ℤ, pos, negsuc, negℤ, natAbs, _+ℤ_, _-ℤ_, _*ℤ_, negℤ-negℤ}
+use lib.Ieee.Nearest.{div-mono}
 use lib.Signed.{quotZ, remZ, mag, _<ℤ_}
 use Rattle.integers.specs.Difference.{sub-is}
 use Rattle.integers.specs.Size.{abs-neg, abs-is, parts-apart, mag-neg-le}
@@ -64,6 +65,18 @@ pub rndSize-under : (n d m : ℕ) → 0 < d → n ≤ d * m → rndSize n d ≤ 
 unfolding rndSize
 rndSize-under n d m h k =
     omega (arith, div-lt-iff-lt-mul {k = 2 * d} {x = 2 * n + d} {y = m + 1} (omega arith) .1 (omega arith))
+
+-- a larger dividend or a smaller divisor gives no smaller quotient
+pub rndSize-mono : (m n d e : ℕ) → 0 < d → 0 < e → m * e ≤ n * d → rndSize m d ≤ rndSize n e
+unfolding rndSize
+rndSize-mono m n d e hd he h =
+    div-mono (2 * m + d) (2 * d) (2 * n + e) (2 * e) (omega arith) (omega arith) (omega (arith, h))
+
+-- a dividend larger by at most q divisors gives at most q more
+pub rndSize-rises : (m n q d : ℕ) → 0 < d → m ≤ q * d + n → rndSize m d ≤ q + rndSize n d
+rndSize-rises m n q d h k =
+    subst (λ r. rndSize m d ≤ r) (rndSize-more q n d h)
+    (rndSize-mono m (q * d + n) d d h h (mul-le-mul-right d k))
 
 -- ---- of a number: odd, its size
 

@@ -83,7 +83,7 @@ instants-of-refused m r e =
 
 -- ---- a room of 64 bytes is enough
 
-pub number-le : (r : Refusal) → number r ≤ 13
+pub number-le : (r : Refusal) → number r ≤ 14
 unfolding number
 number-le Refusal.Year = lit≤ tt
 number-le Refusal.Day = lit≤ tt
@@ -98,8 +98,9 @@ number-le Refusal.Count = lit≤ tt
 number-le Refusal.Room = lit≤ tt
 number-le Refusal.Instant = lit≤ tt
 number-le Refusal.Length = lit≤ tt
+number-le Refusal.Reading = lit≤ tt
 
-pub refused-line-le : (n : ℕ) → n ≤ 13 → length (refusedLine n) ≤ 28
+pub refused-line-le : (n : ℕ) → n ≤ 14 → length (refusedLine n) ≤ 28
 unfolding refusedLine
 refused-line-le n h = omega (arith, length-decimal (pos n) (word-limit (pos n) (omega arith)))
 

@@ -1,5 +1,5 @@
 -- What the ranges of the refusals say: `between`, `within`, `same`, as facts that `omega` and `Holds` read, and back.
-use mathlib.Core.Path.{_≡_, refl, sym, subst}
+use mathlib.Core.Path.{_≡_, refl, sym, ap, subst, _∙_}
 use mathlib.Core.Bool.{Bool, true, false, not, _&&_}
 use Prim.Native.Nat.{ℕ, _+_, _≤_, _<_}
 use native.Mathlib.Omega.{arith}
@@ -80,3 +80,14 @@ same-eq a b e =
 pub same-self : (a : ℤ) → same a a ≡ true
 unfolding same
 same-self a = let e = test-false a a (omega arith) in rw e
+
+-- what `n == k` in code tells
+pub same-of : (a n : ℤ) → a ≡ n → same a n ≡ true
+same-of a n e = ap (λ z. same z n) e ∙ same-self n
+
+pub not-same : (a n : ℤ) → (a ≡ n → ⊥) → same a n ≡ false
+not-same a n h = by (same a n) (same-eq a n)
+  where
+    by : (b : Bool) → (b ≡ true → a ≡ n) → b ≡ false
+    by true f = absurd (h (f refl))
+    by false f = refl

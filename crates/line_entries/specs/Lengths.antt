@@ -7,7 +7,7 @@ use lib.IntN.{ℤ, pos, natAbs}
 use lib.ListN.{length, length-append}
 use Rattle.rules.specs.declared.Place.{Place}
 use Rattle.rules.specs.declared.Entry.{Entry}
-use Rattle.rules.specs.Units.{circle}
+use Rattle.rules.specs.Units.{circle, quarter}
 use Rattle.rules.specs.Times.{decimal}
 use Rattle.laws.specs.Decimal.{word-limit, length-decimal}
 use Rattle.sexagesimal.specs.Sexagesimal.{spaced, hours, bearing, elevation}
@@ -20,15 +20,18 @@ number-le z h = length-decimal z (word-limit z h)
 
 -- ---- a line
 
--- angles of at most a circle
+-- angles of at most a circle, and heights of at most a quarter
 pub record AnglesLe (p : Place) : Type 0 where
   pub ra : natAbs (p .ra) ≤ circle
-  pub declination : natAbs (p .declination) ≤ circle
+  pub declination : natAbs (p .declination) ≤ quarter
   pub azimuth : natAbs (p .azimuth) ≤ circle
-  pub altitude : natAbs (p .altitude) ≤ circle
+  pub altitude : natAbs (p .altitude) ≤ quarter
 
 angle-le : (z : ℤ) → natAbs z ≤ circle → length (decimal z) ≤ 20
 angle-le z h = number-le z (omega arith)
+
+height-le : (z : ℤ) → natAbs z ≤ quarter → length (decimal z) ≤ 20
+height-le z h = number-le z (omega arith)
 
 four-le : (a b c d : List ℕ) → length a ≤ 20 → length b ≤ 20 → length c ≤ 20 → length d ≤ 20
     → length (spaced a ++ spaced b ++ spaced c ++ spaced d) ≤ 84
@@ -44,8 +47,8 @@ pub plain-le : (p : Place) → AnglesLe p → length (plainAngles p) ≤ 84
 unfolding plainAngles
 plain-le p h =
     four-le (decimal (p .ra)) (decimal (p .declination)) (decimal (p .azimuth)) (decimal (p .altitude))
-    (angle-le (p .ra) (h .ra)) (angle-le (p .declination) (h .declination))
-    (angle-le (p .azimuth) (h .azimuth)) (angle-le (p .altitude) (h .altitude))
+    (angle-le (p .ra) (h .ra)) (height-le (p .declination) (h .declination))
+    (angle-le (p .azimuth) (h .azimuth)) (height-le (p .altitude) (h .altitude))
 
 pub people-le : (p : Place) → length (peopleAngles p) ≤ 84
 unfolding peopleAngles

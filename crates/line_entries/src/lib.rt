@@ -14,6 +14,8 @@ ghost use Rattle.rules.specs.Times.{decimal};
 ghost use Rattle.line_entries.specs.EntryLine as rule;
 ghost use Rattle.sexagesimal.specs.Sexagesimal.{spaced};
 
+pub mod observed;
+
 // A space and a number.
 fn put_spaced(n: i64, at: usize, out: &mut [u8]) -> usize
     requires { ⌜ at + 21 ≤ length (now out) ⌝ }

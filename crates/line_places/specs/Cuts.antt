@@ -18,6 +18,7 @@ use Rattle.rules.specs.ListReading.{markRefused, countRefused, listCount}
 use Rattle.laws.specs.FileTests.{count-many, count-fails}
 use Rattle.line_asked.specs.Asking.{lengthBefore}
 use Rattle.line_asked.specs.LongLines.{asked-cut}
+use Rattle.line_places.specs.declared.air.Air.{Air}
 use Rattle.line_places.specs.Answers.{begun}
 use Rattle.line_places.specs.Program.{firstLine, places}
 use Rattle.line_places.specs.Printed.{file-refused}
@@ -44,10 +45,10 @@ first-line-cut (suc k) (b ∷ bs) = go (eqb b newline) (first-line-cut k bs)
     go true e = refl
     go false e = ap (λ rest. b ∷ rest) e
 
-pub input-cut : (people : Bool) (file input : List ℕ)
-    → places people file (take lineKept input) ≡ places people file input
+pub input-cut : (people : Bool) (air : Air) (file input : List ℕ)
+    → places people air file (take lineKept input) ≡ places people air file input
 unfolding places begun
-input-cut people file input = rw (first-line-cut lineKept input, asked-cut (firstLine input) lineKept (lit≤ tt))
+input-cut people air file input = rw (first-line-cut lineKept input, asked-cut (firstLine input) lineKept (lit≤ tt))
 
 -- what follows the first LF
 first-line-end : (before after : List ℕ) → firstLine (before ++ newline ∷ after) ≡ firstLine before
@@ -61,10 +62,10 @@ first-line-end (b ∷ bs) after = go (eqb b newline) (first-line-end bs after)
     go true e = refl
     go false e = ap (λ rest. b ∷ rest) e
 
-pub after-line : (people : Bool) (file before after : List ℕ)
-    → places people file (before ++ newline ∷ after) ≡ places people file before
+pub after-line : (people : Bool) (air : Air) (file before after : List ℕ)
+    → places people air file (before ++ newline ∷ after) ≡ places people air file before
 unfolding places
-after-line people file before after = rw (first-line-end before after)
+after-line people air file before after = rw (first-line-end before after)
 
 -- ---- the file
 
@@ -75,7 +76,8 @@ part-cut (suc from) count zero file h = absurd (omega arith)
 part-cut (suc from) count (suc k) [] h = refl
 part-cut (suc from) count (suc k) (b ∷ bs) h = part-cut from count k bs (omega arith)
 
-mark-cut : (k : ℕ) (file : List ℕ) → headLength ≤ k → headLength ≤ length file → markRefused (take k file) ≡ markRefused file
+mark-cut : (k : ℕ) (file : List ℕ) → headLength ≤ k → headLength ≤ length file
+    → markRefused (take k file) ≡ markRefused file
 unfolding markRefused unsignedAt
 mark-cut k file h l =
     rw (
@@ -108,18 +110,19 @@ long-refused file h = rw (long-count file h) (go (markRefused file))
     go false = refl
 
 -- and by what is kept of it as by the whole
-pub file-cut : (people : Bool) (file input : List ℕ)
-    → places people (take fileKept file) input ≡ places people file input
-file-cut people file input = go (ltb fileKept (length file)) refl
+pub file-cut : (people : Bool) (air : Air) (file input : List ℕ)
+    → places people air (take fileKept file) input ≡ places people air file input
+file-cut people air file input = go (ltb fileKept (length file)) refl
   where
     go : (t : Bool) → ltb fileKept (length file) ≡ t
-        → places people (take fileKept file) input ≡ places people file input
-    go false e = ap (λ bytes. places people bytes input) (take-all fileKept file (ltb-false fileKept (length file) e))
+        → places people air (take fileKept file) input ≡ places people air file input
+    go false e =
+        ap (λ bytes. places people air bytes input) (take-all fileKept file (ltb-false fileKept (length file) e))
     go true e =
         let long = ltb-true fileKept (length file) e in
         let same = mark-cut fileKept file (omega arith) (omega arith) in
-        file-refused people (take fileKept file) input (cond (markRefused file) Refusal.Mark Refusal.Count)
+        file-refused people air (take fileKept file) input (cond (markRefused file) Refusal.Mark Refusal.Count)
         (long-refused (take fileKept file) (omega (arith, length-take fileKept file))
         ∙ ap (λ t. Listed.Refused (cond t Refusal.Mark Refusal.Count)) same)
-        ∙ sym (file-refused people file input (cond (markRefused file) Refusal.Mark Refusal.Count)
+        ∙ sym (file-refused people air file input (cond (markRefused file) Refusal.Mark Refusal.Count)
         (long-refused file (omega arith)))

@@ -19,9 +19,12 @@ use Rattle.laws.specs.Ranges.{true-not-false}
 use Rattle.laws.specs.ListFile.{accepted-few}
 use Rattle.line_asked.specs.declared.Asked.{Asked}
 use Rattle.line_asked.specs.Asking.{askedOf}
-use Rattle.line_places.specs.Answers.{Begun, begunIn, begunFor, begunOf, begun}
+use Rattle.line_places.specs.declared.air.Air.{Air}
+use Rattle.line_places.specs.Air.{airAccepted}
+use Rattle.line_places.specs.Answers.{Begun, begunIn, begunFor, begunOf, inAir, begun}
 
-found : (b : Bool) (t s : Star) → cond b (ListedStar.Of t) (ListedStar.Refused Refusal.Room) ≡ ListedStar.Of s → b ≡ true
+found : (b : Bool) (t s : Star) → cond b (ListedStar.Of t) (ListedStar.Refused Refusal.Room) ≡ ListedStar.Of s
+    → b ≡ true
 found true t s e = refl
 found false t s e = let z : true ≡ false = cc in true-not-false z
 
@@ -50,6 +53,23 @@ begun-counted (Listed.Count c) Asked.Other count n e = let z : true ≡ false = 
 begun-counted (Listed.Count c) (Asked.For m site) count n e =
     ap Listed.Count (begun-in-counted (nightOf m site) c count n e)
 
-pub count-of-begun : (file line : List ℕ) (count : ℕ) (n : Night) → begun file line ≡ Begun.For count n → count ≤ mostRecords
+-- ---- and in an air that is accepted
+
+in-air-accepted : (air : Air) (b : Begun) (count : ℕ) (n : Night) → inAir air b ≡ Begun.For count n
+    → (b ≡ Begun.For count n) × (airAccepted air ≡ true)
+unfolding inAir
+in-air-accepted air (Begun.Refused r) count n e = let z : true ≡ false = cc in true-not-false z
+in-air-accepted air Begun.Other count n e = let z : true ≡ false = cc in true-not-false z
+in-air-accepted air (Begun.For c k) count n e = go (airAccepted air) e
+  where
+    go : (t : Bool) → cond t (Begun.For c k) (Begun.Refused Refusal.Reading) ≡ Begun.For count n
+        → (Begun.For c k ≡ Begun.For count n) × (t ≡ true)
+    go true f = (f, refl)
+    go false f = let z : true ≡ false = cc in true-not-false z
+
+pub begun-is : (air : Air) (count : ℕ) (n : Night) (file line : List ℕ) → begun air file line ≡ Begun.For count n
+    → (count ≤ mostRecords) × (airAccepted air ≡ true)
 unfolding begun
-count-of-begun file line count n e = accepted-few file count (begun-counted (listCount file) (askedOf line) count n e)
+begun-is air count n file line e =
+    let k = in-air-accepted air (begunOf (listCount file) (askedOf line)) count n e in
+    (accepted-few file count (begun-counted (listCount file) (askedOf line) count n (k .0)), k .1)

@@ -6,7 +6,7 @@ use Prim.Native.Nat.{ℕ, _-_, _≤_}
 use native.Mathlib.Omega.{arith}
 use lib.Dec.{lit≤}
 use lib.IntN.{ℤ, pos, negsuc, natAbs}
-use lib.ListN.{length}
+use lib.ListN.{length, length-append}
 use Rattle.rules.specs.declared.Star.{Star}
 use Rattle.rules.specs.declared.Entry.{Entry}
 use Rattle.rules.specs.declared.Night.{Night}
@@ -23,9 +23,33 @@ use Rattle.laws.specs.ReadingRange.{reading-range}
 use Rattle.laws.specs.Heights.{height-le}
 use Rattle.laws.specs.Times.{refused-line-le, number-le}
 use Rattle.line_entries.specs.EntryLine.{entryLine}
+use Rattle.line_entries.specs.Observed.{observedColumn}
 use Rattle.line_entries.specs.Lengths.{AnglesLe, entry-le}
-use Rattle.line_places.specs.Answers.{starLine, answerLine}
+use Rattle.line_entries.specs.ObservedAltitude.{observedOf-within, column-le}
+use Rattle.line_places.specs.declared.air.Air.{Air}
+use Rattle.line_places.specs.Air.{airAccepted}
+use Rattle.line_places.specs.Answers.{lineIn, starLine, answerLine}
+use Rattle.line_places.specs.Room.{lineLength}
+use Rattle.line_places.specs.AcceptedAir.{accepted-in-range}
 use Rattle.line_places.specs.Entries.{star-index-le}
+
+-- ---- the line of an entry
+
+pub line-le : (people : Bool) (air : Air) (index : ℕ) (e : Entry) → airAccepted air ≡ true → index ≤ mostRecords
+    → e .mark ≤ 255 → AnglesLe (e .place)
+    → length (lineIn people air index e) ≤ lineLength
+unfolding lineIn
+line-le people Air.Unknown index e a h k l = omega (arith, entry-le people index e h k l)
+line-le people (Air.Of p t) index e a h k l =
+    let w = observedOf-within p t (accepted-in-range p t a) e (l .altitude) in
+    omega (
+      arith,
+      length-append (entryLine people index e) (observedColumn people p t e),
+      entry-le people index e h k l,
+      column-le people p t e (omega (arith, w)),
+    )
+
+-- ---- of an entry that was worked
 
 up-to-le : (z : ℤ) → UpTo z (circle - 1) → natAbs z ≤ circle
 up-to-le (pos n) h = omega (arith, h .high)
@@ -38,26 +62,27 @@ place-le : (n : Night) (s : Star) → AnglesLe (placeIn n s)
 unfolding placeIn readings
 place-le n s = record {
   ra = up-to-le _ (reading-range _ _);
-  declination = omega (arith, height-le (apparent n s));
+  declination = height-le (apparent n s);
   azimuth = up-to-le _ (reading-range _ _);
-  altitude = omega (arith, height-le (overhead n (apparent n s)));
+  altitude = height-le (overhead n (apparent n s));
 }
 
-pub worked-le : (people : Bool) (n : Night) (index : ℕ) (e : Entry) → index ≤ mostRecords
-    → length (entryLine people index (worked n e)) ≤ 125
-unfolding worked
-worked-le people n index e h = go (starRefused (e .star))
-  where
-    go : (b : Bool) → length (entryLine people index (cond b
-        (record { star = e .star; mark = 5; place = noughts })
-        (record { star = e .star; mark = 0; place = placeIn n (e .star) }))) ≤ 125
-    go true = entry-le people index _ h (lit≤ tt) noughts-le
-    go false = entry-le people index _ h (lit≤ tt) (place-le n (e .star))
+module _ (people : Bool) (air : Air) (accepted : airAccepted air ≡ true) where
+  pub worked-le : (n : Night) (index : ℕ) (e : Entry) → index ≤ mostRecords
+      → length (lineIn people air index (worked n e)) ≤ lineLength
+  unfolding worked
+  worked-le n index e h = go (starRefused (e .star))
+    where
+      go : (b : Bool) → length (lineIn people air index (cond b
+          (record { star = e .star; mark = 5; place = noughts })
+          (record { star = e .star; mark = 0; place = placeIn n (e .star) }))) ≤ lineLength
+      go true = line-le people air index _ accepted h (lit≤ tt) noughts-le
+      go false = line-le people air index _ accepted h (lit≤ tt) (place-le n (e .star))
 
-pub answer-le : (people : Bool) (file : List ℕ) (n : Night) (index : ℕ) → length (answerLine people file n index) ≤ 125
-unfolding answerLine starLine
-answer-le people file n index = go (listStar file index) refl
-  where
-    go : (s : ListedStar) → listStar file index ≡ s → length (starLine people n index s) ≤ 125
-    go (ListedStar.Of s) e = worked-le people n index (freshEntry s) (star-index-le file index s e)
-    go (ListedStar.Refused r) e = omega (arith, refused-line-le (number r) (number-le r))
+  pub answer-le : (file : List ℕ) (n : Night) (index : ℕ) → length (answerLine people air file n index) ≤ lineLength
+  unfolding answerLine starLine
+  answer-le file n index = go (listStar file index) refl
+    where
+      go : (s : ListedStar) → listStar file index ≡ s → length (starLine people air n index s) ≤ lineLength
+      go (ListedStar.Of s) e = worked-le n index (freshEntry s) (star-index-le file index s e)
+      go (ListedStar.Refused r) e = omega (arith, refused-line-le (number r) (number-le r))

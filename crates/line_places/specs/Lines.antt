@@ -1,20 +1,40 @@
 -- The lines of the entries with their ends, put into a room one after another.
 use mathlib.Core.Path.{_≡_, refl, sym, ap, _∙_}
-use mathlib.Core.Bool.{Bool}
+use mathlib.Core.Bool.{Bool, true}
 use mathlib.Core.List.{List, [], _∷_, _++_}
 use Prim.Native.Nat.{ℕ, zero, suc, _+_, _*_, _<_, _≤_}
 use native.Mathlib.Numerals.{add-one}
 use native.Mathlib.Omega.{arith}
 use lib.ListN.{length, length-append}
 use lib.Seq.{sets}
+use Rattle.rules.specs.declared.Entry.{Entry}
 use Rattle.rules.specs.declared.Night.{Night}
 use Rattle.rules.specs.Times.{ended}
 use Rattle.laws.specs.PuttingBytes.{sets-append}
 use Rattle.laws.specs.LinesWithEnds.{ended-append, ended-length, ended-cons}
-use Rattle.line_places.specs.Answers.{answerLine}
-use Rattle.line_places.specs.Program.{header, entryLines}
-use Rattle.line_places.specs.Listed.{linesTo, Short}
+use Rattle.line_entries.specs.EntryLine.{entryLine}
+use Rattle.line_entries.specs.Observed.{observedColumn}
+use Rattle.line_places.specs.declared.air.Air.{Air}
+use Rattle.line_places.specs.Air.{airAccepted}
+use Rattle.line_places.specs.Answers.{lineIn, answerLine}
+use Rattle.line_places.specs.Program.{headerIn, entryLines}
+use Rattle.line_places.specs.Listed.{linesTo}
+use Rattle.line_places.specs.Room.{lineLength, Short}
 use Rattle.line_places.specs.Lengths.{answer-le}
+
+-- the columns before the observed altitude
+pub line-front : (people : Bool) (air : Air) (index : ℕ) (e : Entry)
+    → length (entryLine people index e) ≤ length (lineIn people air index e)
+unfolding lineIn
+line-front people Air.Unknown index e = omega arith
+line-front people (Air.Of p t) index e =
+    omega (arith, length-append (entryLine people index e) (observedColumn people p t e))
+
+-- the header with its end
+pub header-le : (air : Air) → length (ended (headerIn air ∷ [])) ≤ 29
+unfolding headerIn ended
+header-le Air.Unknown = omega arith
+header-le (Air.Of p t) = omega arith
 
 -- one entry more
 pub lines-step : (line : ℕ → List ℕ) (index : ℕ)
@@ -22,7 +42,8 @@ pub lines-step : (line : ℕ → List ℕ) (index : ℕ)
 unfolding linesTo
 lines-step line index = rw (add-one index) (ended-append (linesTo line index) _)
 
-pub lines-le : (line : ℕ → List ℕ) (count : ℕ) → Short line count → length (ended (linesTo line count)) ≤ 126 * count
+pub lines-le : (line : ℕ → List ℕ) (count : ℕ) → Short line count
+    → length (ended (linesTo line count)) ≤ (lineLength + 1) * count
 unfolding linesTo ended
 lines-le line zero short = omega arith
 lines-le line (suc count) short =
@@ -44,17 +65,17 @@ lines-same line other (suc count) same =
     rw (lines-same line other count (λ index h. same index (omega (arith, h))), same count (omega arith))
 
 -- the lines of a file's entries
-pub entry-lines-are : (people : Bool) (file : List ℕ) (n : Night) (count : ℕ)
-    → entryLines people file n count ≡ linesTo (answerLine people file n) count
-unfolding entryLines linesTo
-entry-lines-are people file n zero = refl
-entry-lines-are people file n (suc count) = rw (entry-lines-are people file n count)
+module _ (people : Bool) (air : Air) (file : List ℕ) (n : Night) where
+  pub entry-lines-are : (count : ℕ) → entryLines people air file n count ≡ linesTo (answerLine people air file n) count
+  unfolding entryLines linesTo
+  entry-lines-are zero = refl
+  entry-lines-are (suc count) = rw (entry-lines-are count)
 
-pub entry-lines-le : (people : Bool) (file : List ℕ) (n : Night) (count : ℕ)
-    → length (ended (entryLines people file n count)) ≤ 126 * count
-entry-lines-le people file n count =
-    rw (entry-lines-are people file n count)
-    (lines-le (answerLine people file n) count (λ index h. answer-le people file n index))
+  pub entry-lines-le : (count : ℕ) → airAccepted air ≡ true
+      → length (ended (entryLines people air file n count)) ≤ (lineLength + 1) * count
+  entry-lines-le count accepted =
+      rw (entry-lines-are count)
+      (lines-le (answerLine people air file n) count (λ index h. answer-le people air accepted file n index))
 
 -- ---- put into a room, one by one
 
@@ -84,20 +105,20 @@ module _ (line : ℕ → List ℕ) (before : List ℕ) (from : ℕ) where
       }
 
   -- and after the header, all of them
-  pub all-put : (count index : ℕ) (headed : List ℕ) {room : List ℕ} {at : ℕ} → index ≡ count
-      → from ≡ 25 → headed ≡ sets before 0 (ended (header ∷ []))
+  pub all-put : (header : List ℕ) (count index : ℕ) (headed : List ℕ) {room : List ℕ} {at : ℕ} → index ≡ count
+      → from ≡ length (ended (header ∷ [])) → headed ≡ sets before 0 (ended (header ∷ []))
       → LinesPut line index headed from room at
       → (at ≡ length (ended (header ∷ linesTo line count)))
       × (room ≡ sets before 0 (ended (header ∷ linesTo line count)))
-  unfolding ended
-  all-put count index headed {room} {at} all e f put =
+  all-put header count index headed {room} {at} all e f put =
       let head = ended (header ∷ []) in
       let lines = ended (linesTo line count) in
       let split = ended-cons header (linesTo line count) in
+      let place : from ≡ 0 + length head = omega (arith, e) in
       let end : at ≡ from + length lines =
       put .end ∙ ap (λ k. from + length (ended (linesTo line k))) all in
       let is : room ≡ sets headed from lines =
       put .put ∙ ap (λ k. sets headed from (ended (linesTo line k))) all in (
         omega (arith, end, e, ap length split, length-append head lines),
-        is ∙ rw (e, f) (sym (sets-append before 0 head lines)) ∙ ap (sets before 0) (sym split),
+        is ∙ rw (place, f) (sym (sets-append before 0 head lines)) ∙ ap (sets before 0) (sym split),
       )

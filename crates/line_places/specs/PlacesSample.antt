@@ -6,6 +6,7 @@ use mathlib.Core.List.{List, [], _∷_, _++_}
 use Prim.Native.Nat.{ℕ}
 use Rattle.rules.specs.declared.Star.{Star}
 use Rattle.rules.specs.declared.Place.{Place}
+use Rattle.rules.specs.declared.Entry.{Entry}
 use Rattle.rules.specs.declared.Instants.{Instants}
 use Rattle.rules.specs.declared.Placed.{Placed}
 use Rattle.rules.specs.declared.Prepared.{Prepared}
@@ -33,8 +34,11 @@ use Rattle.line_asked.specs.Asking.{lengthBefore, firstWord, afterWord, ofSite,
 use Rattle.line_asked.specs.Asking.{withSite, askedIn, momentEnd, askedOf}
 use Rattle.sexagesimal.specs.Sexagesimal.{marked, clock, sexagesimal, roundIn, hours, bearing, signOf, elevation}
 use Rattle.line_entries.specs.EntryLine.{plainAngles, peopleAngles, entryLine}
-use Rattle.line_places.specs.Answers.{Begun, begunIn, begunFor, begunOf, begun, starLine, answerLine}
-use Rattle.line_places.specs.Program.{header, entryLines, answerLines, firstLine, places}
+use Rattle.line_places.specs.declared.air.Air.{Air}
+use Rattle.line_places.specs.Air.{airAccepted}
+use Rattle.line_places.specs.Answers.{Begun, begunIn, begunFor, begunOf, inAir, begun}
+use Rattle.line_places.specs.Answers.{lineIn, starLine, answerLine}
+use Rattle.line_places.specs.Program.{header, headerIn, entryLines, answerLines, firstLine, places}
 
 -- `2026-03-20 20:00:00.000 0 180316000000 51915000000`
 abbrev pub sampleInput : List ℕ
@@ -94,18 +98,19 @@ unfolding askedOf askedIn withSite ofSite siteIn firstWord afterWord momentEnd l
     ofForm negative unsigned ofDigits ofNumber spelled field signed moment lineOf
 line-asks = refl
 
-begins : begun sampleFile (firstLine sampleInput) ≡ Begun.For 2 tonight
-unfolding begun begunOf begunFor begunIn
-begins = rw (file-counts, line-asks, night-tonight)
+begins : (air : Air) → airAccepted air ≡ true → begun air sampleFile (firstLine sampleInput) ≡ Begun.For 2 tonight
+unfolding begun inAir begunOf begunFor begunIn
+begins air accepted = rw (file-counts, line-asks, night-tonight, accepted)
 
 -- ---- the lines
 
 -- the line of a star that is read, by its place
-line-is : (people : Bool) (index : ℕ) (s : Star) (p : Place) → listStar sampleFile index ≡ ListedStar.Of s
+line-is : (people : Bool) (air : Air) (index : ℕ) (s : Star) (p : Place) → listStar sampleFile index ≡ ListedStar.Of s
     → starRefused s ≡ false → placeIn tonight s ≡ p
-    → answerLine people sampleFile tonight index ≡ entryLine people index (record { star = s; mark = 0; place = p })
+    → answerLine people air sampleFile tonight index
+    ≡ lineIn people air index (record { star = s; mark = 0; place = p })
 unfolding answerLine starLine worked freshEntry
-line-is people index s p e h f = rw (e, h, f)
+line-is people air index s p e h f = rw (e, h, f)
 
 first-star : listStar sampleFile 0 ≡ ListedStar.Of sirius
 unfolding listStar starAt starIn recordOf fileOf fileLength ofBytes bytesOf signedOf unsignedOf part unsignedAt signedAt
@@ -117,22 +122,27 @@ unfolding listStar starAt starIn recordOf fileOf fileLength ofBytes bytesOf sign
     signedBytes
 second-star = rw file-counts
 
+abbrev pub siriusEntry : Entry
+siriusEntry = record { star = sirius; mark = 0; place = siriusPlace }
+
+abbrev pub equinoxEntry : Entry
+equinoxEntry = record { star = equinox; mark = 0; place = equinoxPlace }
+
 -- all that is printed, by the two lines
-printed : (people : Bool) → places people sampleFile sampleInput ≡ ended (header
-    ∷ entryLine people 0 (record { star = sirius; mark = 0; place = siriusPlace })
-    ∷ entryLine people 1 (record { star = equinox; mark = 0; place = equinoxPlace }) ∷ [])
+pub printed : (people : Bool) (air : Air) → airAccepted air ≡ true → places people air sampleFile sampleInput
+    ≡ ended (headerIn air ∷ lineIn people air 0 siriusEntry ∷ lineIn people air 1 equinoxEntry ∷ [])
 unfolding places answerLines entryLines starRefused between within
-printed people = rw (
-  begins,
-  line-is people 0 sirius siriusPlace first-star refl (stood sirius siriusPlace refl sirius-stands),
-  line-is people 1 equinox equinoxPlace second-star refl (stood equinox equinoxPlace refl equinox-stands),
+printed people air accepted = rw (
+  begins air accepted,
+  line-is people air 0 sirius siriusPlace first-star refl (stood sirius siriusPlace refl sirius-stands),
+  line-is people air 1 equinox equinoxPlace second-star refl (stood equinox equinoxPlace refl equinox-stands),
 )
 
-pub sample : places false sampleFile sampleInput ≡ sampleOutput
-unfolding ended entryLine plainAngles decimal decimalBefore
-sample = printed false
+pub sample : places false Air.Unknown sampleFile sampleInput ≡ sampleOutput
+unfolding ended headerIn lineIn airAccepted entryLine plainAngles decimal decimalBefore
+sample = printed false Air.Unknown refl
 
-pub sample-for-people : places true sampleFile sampleInput ≡ peopleOutput
-unfolding ended entryLine peopleAngles hours bearing elevation roundIn signOf sexagesimal clock marked lastDigits rnd
-    rndSize modulo decimal decimalBefore
-sample-for-people = printed true
+pub sample-for-people : places true Air.Unknown sampleFile sampleInput ≡ peopleOutput
+unfolding ended headerIn lineIn airAccepted entryLine peopleAngles hours bearing elevation roundIn signOf sexagesimal
+    clock marked lastDigits rnd rndSize modulo decimal decimalBefore
+sample-for-people = printed true Air.Unknown refl

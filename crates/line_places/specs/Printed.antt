@@ -1,6 +1,6 @@
 -- All that is printed: it fits its room and stands at the front of it; and which it is, exactly when.
 use mathlib.Core.Path.{_≡_, refl, sym, ap, _∙_}
-use mathlib.Core.Bool.{Bool}
+use mathlib.Core.Bool.{Bool, true, false}
 use mathlib.Core.List.{List, [], _∷_}
 use Prim.Native.Nat.{ℕ, _≤_}
 use native.Mathlib.Omega.{arith}
@@ -24,75 +24,80 @@ use Rattle.laws.specs.Times.{number-le, refused-line-is, refused-line-le}
 use Rattle.decimals.specs.Refused.{refusedTo}
 use Rattle.line_asked.specs.declared.Asked.{Asked}
 use Rattle.line_asked.specs.Asking.{askedOf}
-use Rattle.line_places.specs.Answers.{Begun, begunIn, begunFor, begunOf, begun}
-use Rattle.line_places.specs.Program.{header, entryLines, answerLines, firstLine, places}
-use Rattle.line_places.specs.Entries.{count-of-begun}
-use Rattle.line_places.specs.Lines.{entry-lines-le}
+use Rattle.line_places.specs.declared.air.Air.{Air}
+use Rattle.line_places.specs.Air.{airAccepted}
+use Rattle.line_places.specs.Answers.{Begun, begunIn, begunFor, begunOf, inAir, begun}
+use Rattle.line_places.specs.Program.{headerIn, entryLines, answerLines, firstLine, places}
+use Rattle.line_places.specs.Room.{answerRoom}
+use Rattle.line_places.specs.Entries.{begun-is}
+use Rattle.line_places.specs.Lines.{header-le, entry-lines-le}
 
--- the room of a header and 64 lines
-abbrev pub answerRoom : ℕ
-answerRoom = 8448
-
-answer-lines-le : (people : Bool) (file line : List ℕ) (b : Begun) → begun file line ≡ b
-    → length (ended (answerLines people file b)) ≤ answerRoom
+answer-lines-le : (people : Bool) (air : Air) (file line : List ℕ) (b : Begun) → begun air file line ≡ b
+    → length (ended (answerLines people air file b)) ≤ answerRoom
 unfolding answerLines
-answer-lines-le people file line (Begun.For count n) e =
-    let lines = entryLines people file n count in
+answer-lines-le people air file line (Begun.For count n) e =
+    let lines = entryLines people air file n count in
+    let k = begun-is air count n file line e in
     omega (
       arith,
-      ap length (ended-cons header lines),
-      length-append (ended (header ∷ [])) (ended lines),
-      ended-length header,
-      entry-lines-le people file n count,
-      count-of-begun file line count n e,
+      ap length (ended-cons (headerIn air) lines),
+      length-append (ended (headerIn air ∷ [])) (ended lines),
+      header-le air,
+      entry-lines-le people air file n count (k .1),
+      k .0,
     )
-answer-lines-le people file line (Begun.Refused r) e =
+answer-lines-le people air file line (Begun.Refused r) e =
     omega (arith, ended-length (refusedLine (number r)), refused-line-le (number r) (number-le r))
-answer-lines-le people file line Begun.Other e =
+answer-lines-le people air file line Begun.Other e =
     omega (arith, ended-length (refusedLine 0), refused-line-le 0 (lit≤ tt))
 
-pub places-le : (people : Bool) (file input : List ℕ) → length (places people file input) ≤ answerRoom
+pub places-le : (people : Bool) (air : Air) (file input : List ℕ) → length (places people air file input) ≤ answerRoom
 unfolding places
-places-le people file input = answer-lines-le people file (firstLine input) (begun file (firstLine input)) refl
+places-le people air file input =
+    answer-lines-le people air file (firstLine input) (begun air file (firstLine input)) refl
 
 -- the line of a refusal, by its number
 pub ended-refused : (n : ℕ) → ended (refusedTo (pos n) ∷ []) ≡ ended (refusedLine n ∷ [])
 ended-refused n = ap (λ l. ended (l ∷ [])) (sym (refused-line-is n))
 
 -- the lines of what a file and a line come to, put at the front of the room
-pub answer-put : (people : Bool) (file input : List ℕ) (lines : List (List ℕ)) (room after : List ℕ) (r : ℕ)
-    → answerLines people file (begun file (firstLine input)) ≡ lines → answerRoom ≤ length room
+pub answer-put : (people : Bool) (air : Air) (file input : List ℕ) (lines : List (List ℕ)) (room after : List ℕ) (r : ℕ)
+    → answerLines people air file (begun air file (firstLine input)) ≡ lines → answerRoom ≤ length room
     → r ≡ length (ended lines) → after ≡ sets room 0 (ended lines)
-    → (r ≡ length (places people file input)) × (after ≡ overlaid (places people file input) room)
+    → (r ≡ length (places people air file input)) × (after ≡ overlaid (places people air file input) room)
 unfolding places
-answer-put people file input lines room after r e h long put =
+answer-put people air file input lines room after r e h long put =
     let is = ap ended (sym e) in (
       long ∙ ap length is,
       put ∙ ap (sets room 0) is
-          ∙ overlaid-is (places people file input) room (omega (arith, places-le people file input)),
+          ∙ overlaid-is (places people air file input) room (omega (arith, places-le people air file input)),
     )
 
--- ---- what is printed, exactly when: the file, then the form of the line, then date and site
+-- ---- what is printed, exactly when: the file, then the form of the line, then date and site, then the air
 
-module _ (people : Bool) (file input : List ℕ) where
+module _ (people : Bool) (air : Air) (file input : List ℕ) where
   pub file-refused : (r : Refusal) → listCount file ≡ Listed.Refused r
-      → places people file input ≡ ended (refusedLine (number r) ∷ [])
-  unfolding places begun begunOf answerLines
+      → places people air file input ≡ ended (refusedLine (number r) ∷ [])
+  unfolding places begun inAir begunOf answerLines
   file-refused r e = rw e
 
-  pub other-form : (count : ℕ) → listCount file ≡ Listed.Count count → askedOf (firstLine input) ≡ Asked.Other
-      → places people file input ≡ ended (refusedLine 0 ∷ [])
-  unfolding places begun begunOf begunFor answerLines
-  other-form count e f = rw (e, f)
+  module _ (count : ℕ) (e : listCount file ≡ Listed.Count count) where
+    pub other-form : askedOf (firstLine input) ≡ Asked.Other → places people air file input ≡ ended (refusedLine 0 ∷ [])
+    unfolding places begun inAir begunOf begunFor answerLines
+    other-form f = rw (e, f)
 
-  pub night-refused : (count : ℕ) (m : Moment) (site : Site) (r : Refusal) → listCount file ≡ Listed.Count count
-      → askedOf (firstLine input) ≡ Asked.For m site → nightOf m site ≡ Prepared.Refused r
-      → places people file input ≡ ended (refusedLine (number r) ∷ [])
-  unfolding places begun begunOf begunFor begunIn answerLines
-  night-refused count m site r e f g = rw (e, f, g)
+    module _ (m : Moment) (site : Site) (f : askedOf (firstLine input) ≡ Asked.For m site) where
+      pub night-refused : (r : Refusal) → nightOf m site ≡ Prepared.Refused r
+          → places people air file input ≡ ended (refusedLine (number r) ∷ [])
+      unfolding places begun inAir begunOf begunFor begunIn answerLines
+      night-refused r g = rw (e, f, g)
 
-  pub entries-printed : (count : ℕ) (m : Moment) (site : Site) (n : Night) → listCount file ≡ Listed.Count count
-      → askedOf (firstLine input) ≡ Asked.For m site → nightOf m site ≡ Prepared.For n
-      → places people file input ≡ ended (header ∷ entryLines people file n count)
-  unfolding places begun begunOf begunFor begunIn answerLines
-  entries-printed count m site n e f g = rw (e, f, g)
+      pub air-refused : (n : Night) → nightOf m site ≡ Prepared.For n → airAccepted air ≡ false
+          → places people air file input ≡ ended (refusedLine 14 ∷ [])
+      unfolding places begun inAir begunOf begunFor begunIn answerLines number
+      air-refused n g h = rw (e, f, g, h)
+
+      pub entries-printed : (n : Night) → nightOf m site ≡ Prepared.For n → airAccepted air ≡ true
+          → places people air file input ≡ ended (headerIn air ∷ entryLines people air file n count)
+      unfolding places begun inAir begunOf begunFor begunIn answerLines
+      entries-printed n g h = rw (e, f, g, h)

@@ -2,8 +2,10 @@
 // include/turbelicus.h says the same in C.
 //
 // No function asks anything of its numbers. An answer that may be refused is a struct: the number
-// of the refusal and noughts, or 0 and the values.
+// of the refusal and noughts, or 0 and the values. A refused weather record comes back as it was.
 
 pub mod lists;
+pub mod observed;
 pub mod places;
+pub mod probe;
 pub mod turns;

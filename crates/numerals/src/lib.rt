@@ -9,6 +9,7 @@ ghost use Rattle.rules.specs.Numerals as rule;
 ghost use Rattle.laws.specs.Lines as law;
 
 pub mod fields;
+pub mod tenths;
 
 fn is_digit(b: u8) -> bool
     ensures { λ r. ⌜ r ≡ rule.isDigit b ⌝ }

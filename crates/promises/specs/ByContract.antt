@@ -23,6 +23,8 @@ use Rattle.rules.specs.Reading as readings
 use Rattle.rules.specs.Turning.{turned}
 use Rattle.rules.specs.Night.{nightOf}
 use Rattle.rules.specs.Place as places
+use Rattle.rules.specs.Weather.{takenFrom}
+use Rattle.rules.specs.Refraction.{observedAltitude}
 use Rattle.rules.specs.ListReading.{listCount, listStar, listRead, entriesAfterRead}
 use Rattle.rules.specs.ListWriting.{listWritten, roomAfterWrite, numbersWritten, roomAfterNumbers}
 use Rattle.rules.specs.NightList.{nightList, entriesAfterNight}
@@ -41,6 +43,8 @@ use Rattle.reading.proofs.reading as reading
 use Rattle.turning.proofs.turn as turn
 use Rattle.place.proofs.place as place
 use Rattle.night.proofs.night_of as night-of
+use Rattle.weather.proofs.kept.take_from as take-from
+use Rattle.refraction.proofs.observed.observed_altitude as observed-altitude
 use Rattle.list_file.proofs.list_count as list-count
 use Rattle.list_file.proofs.list_star as list-star
 use Rattle.entries_read.proofs.read_list as read-list
@@ -119,6 +123,18 @@ module _ {M : Type 1} (𝓤 : URA M) (H : Heap 𝓤) (A : Atoms 𝓤) (mem : Mem
   pub night-of-answers : Tells 𝓤 night-of.ended (night-of.clauses 𝓤 H A mem run)
       (λ κs passed a x. a ≡ nightOf (passed .0) (passed .1 .0))
   night-of-answers κs passed g a x = id⊢ 𝓤 _
+
+  -- ---- the weather
+
+  -- record, reading
+  pub take-from-answers : Tells 𝓤 take-from.ended (take-from.clauses 𝓤 H A mem run)
+      (λ κs passed a x. a ≡ takenFrom (passed .0) (passed .1 .0))
+  take-from-answers κs passed g a x = id⊢ 𝓤 _
+
+  -- altitude, record
+  pub observed-altitude-answers : Tells 𝓤 observed-altitude.ended (observed-altitude.clauses 𝓤 H A mem run)
+      (λ κs passed a x. a ≡ observedAltitude (passed .1 .0) (passed .0))
+  observed-altitude-answers κs passed g a x = id⊢ 𝓤 _
 
   -- ---- the list file
 

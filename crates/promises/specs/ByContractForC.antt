@@ -10,19 +10,24 @@ use ghost.Atoms.{Atoms}
 use contract.Monad.{Fun}
 use denote.Ref.{now}
 use denote.Triple.Clauses.{Clauses}
-use Rattle.rules.specs.Answers.{placedAnswer, turnedAnswer, listedAnswer, listedStarAnswer}
+use Rattle.rules.specs.Answers.{placedAnswer, angleAnswer, observedAnswer, turnedAnswer, listedAnswer, listedStarAnswer}
 use Rattle.rules.specs.Turning.{turned}
 use Rattle.rules.specs.Reading.{reading}
 use Rattle.rules.specs.Place.{place}
+use Rattle.rules.specs.Refraction.{observedAltitude, observedPlace}
 use Rattle.rules.specs.ListReading.{listCount, listStar}
 use Rattle.rules.specs.ListWriting.{numbersWritten, roomAfterNumbers}
 use Rattle.stars.specs.Numbers.{starOf}
-use Rattle.answers.specs.Given.{momentOf, siteOf, directionOf}
+use Rattle.answers.specs.Given.{momentOf, siteOf, directionOf, weatherOf, takenByKind}
+use Rattle.answers.specs.Answers.{weatheredOut, altitudeOut, observedOut}
 use Rattle.answers.specs.Answers.{placedOut, turnedOut, countedOut, starredOut, writtenOut}
 use Rattle.promises.specs.Contracts.{Tells}
 use Rattle.module.proofs.places.turbelicus_place as turbelicus-place
 use Rattle.module.proofs.turns.turbelicus_turn as turbelicus-turn
 use Rattle.module.proofs.turns.turbelicus_reading as turbelicus-reading
+use Rattle.module.proofs.probe.turbelicus_weather as turbelicus-weather
+use Rattle.module.proofs.probe.turbelicus_observed_altitude as turbelicus-observed-altitude
+use Rattle.module.proofs.observed.turbelicus_observed_place as turbelicus-observed-place
 use Rattle.module.proofs.lists.turbelicus_list_count as turbelicus-list-count
 use Rattle.module.proofs.lists.turbelicus_list_star as turbelicus-list-star
 use Rattle.module.proofs.lists.turbelicus_list_write as turbelicus-list-write
@@ -55,6 +60,39 @@ module _ {M : Type 1} (𝓤 : URA M) (H : Heap 𝓤) (A : Atoms 𝓤) (mem : Mem
   pub turbelicus-reading-answers : Tells 𝓤 turbelicus-reading.ended (turbelicus-reading.clauses 𝓤 H A mem run)
       (λ κs passed a x. a ≡ reading (passed .0) (passed .1 .0))
   turbelicus-reading-answers κs passed g a x = id⊢ 𝓤 _
+
+  -- the record's four numbers; kind, reading
+  pub turbelicus-weather-answers : Tells 𝓤 turbelicus-weather.ended (turbelicus-weather.clauses 𝓤 H A mem run)
+      (λ κs kept a x.
+      let reading = kept .1 .1 .1 .1 in
+      a ≡ weatheredOut (takenByKind (weatherOf (kept .0) (kept .1 .0) (kept .1 .1 .0) (kept .1 .1 .1 .0))
+      (reading .0) (reading .1 .0)))
+  turbelicus-weather-answers κs passed g a x = id⊢ 𝓤 _
+
+  -- altitude; the record's four numbers
+  pub turbelicus-observed-altitude-answers : Tells 𝓤 turbelicus-observed-altitude.ended
+      (turbelicus-observed-altitude.clauses 𝓤 H A mem run)
+      (λ κs passed a x.
+      let kept = passed .1 in
+      a ≡ altitudeOut (angleAnswer (observedAltitude
+      (weatherOf (kept .0) (kept .1 .0) (kept .1 .1 .0) (kept .1 .1 .1 .0)) (passed .0))))
+  turbelicus-observed-altitude-answers κs passed g a x = id⊢ 𝓤 _
+
+  -- as `turbelicus_place`; the record's four numbers
+  pub turbelicus-observed-place-answers : Tells 𝓤 turbelicus-observed-place.ended
+      (turbelicus-observed-place.clauses 𝓤 H A mem run)
+      (λ κs date a x.
+      let time = date .1 .1 .1 in
+      let site = time .1 .1 .1 .1 .1 in
+      let star = site .1 .1 in
+      let kept = star .1 .1 .1 .1 in
+      a ≡ observedOut (observedAnswer (observedPlace
+      (momentOf (date .0) (date .1 .0) (date .1 .1 .0)
+      (time .0) (time .1 .0) (time .1 .1 .0) (time .1 .1 .1 .0) (time .1 .1 .1 .1 .0))
+      (starOf (star .0) (star .1 .0) (star .1 .1 .0) (star .1 .1 .1 .0))
+      (siteOf (site .0) (site .1 .0))
+      (weatherOf (kept .0) (kept .1 .0) (kept .1 .1 .0) (kept .1 .1 .1 .0)))))
+  turbelicus-observed-place-answers κs passed g a x = id⊢ 𝓤 _
 
   pub turbelicus-list-count-answers : Tells 𝓤 turbelicus-list-count.ended
       (turbelicus-list-count.clauses 𝓤 H A mem run)

@@ -15,10 +15,12 @@ pub mod Dates
 pub mod Instants
 pub mod Turns
 pub mod Places
+pub mod Weather
 pub mod Lists
 pub mod Writing
 pub mod NightList
 pub mod Boundary
+pub mod WeatherBoundary
 pub mod Thirteen
 pub mod Functions
 pub mod FunctionsForC

@@ -8,6 +8,9 @@ pub mod Demand1
 pub mod Demand2
 pub mod Demand2Answers
 pub mod Demand2OfFunctions
+pub mod Refraction
+pub mod RefractionAnswers
+pub mod RefractionOfFunctions
 pub mod Demand3
 pub mod Demand3OfCalls
 pub mod Errors

@@ -24,6 +24,8 @@ pub mod NightPairs
 pub mod Night
 pub mod Steps
 pub mod Place
+pub mod Weather
+pub mod Refraction
 pub mod ListBytes
 pub mod ListFile
 pub mod ListRecords

@@ -20,6 +20,7 @@ use Rattle.rules.specs.Times.{newline, overlaid}
 use Rattle.laws.specs.PuttingBytes.{front-of}
 use Rattle.line_asked.specs.Asking.{lengthBefore}
 use Rattle.input.specs.Input.{lineWithEnd}
+use Rattle.line_places.specs.declared.air.Air.{Air}
 use Rattle.line_places.specs.Program.{firstLine, places}
 use Rattle.line_places.specs.Cuts.{fileKept, lineKept, input-cut, file-cut}
 use Rattle.promises.specs.Contracts.{AsksNothing, Tells, clauses-told}
@@ -27,7 +28,7 @@ use Rattle.input.proofs.read_file as read-file
 use Rattle.input.proofs.read_line as read-line
 use Rattle.entries_listing.proofs.read as read
 use Rattle.line_places.proofs.print_answer as print-answer
-use Rattle.line_places.proofs.command.is_command as is-command
+use Rattle.line_places.proofs.command.command_of as command-of
 
 -- ---- what is kept, and that it is enough
 
@@ -50,11 +51,11 @@ first-line-same (b ∷ bs) = go (eqb b newline) (first-line-same bs)
     go true e = refl
     go false e = ap (λ rest. b ∷ rest) e
 
-pub kept-decides : (people : Bool) (file input : List ℕ)
-    → places people (keptOfFile file) (keptOfInput input) ≡ places people file input
+pub kept-decides : (people : Bool) (air : Air) (file input : List ℕ)
+    → places people air (keptOfFile file) (keptOfInput input) ≡ places people air file input
 unfolding places
-kept-decides people file input =
-    file-cut people file (keptOfInput input) ∙ input-cut people file (lineWithEnd input)
+kept-decides people air file input =
+    file-cut people air file (keptOfInput input) ∙ input-cut people air file (lineWithEnd input)
     ∙ rw (first-line-same input)
 
 printed : (n : ℕ) (bytes room out : List ℕ) → n ≡ length bytes → out ≡ overlaid bytes room → take n out ≡ bytes
@@ -66,19 +67,19 @@ kept-whole n room k h e = take-all k (take n room) (omega (arith, length-take-le
 module _ {M : Type 1} (𝓤 : URA M) (H : Heap 𝓤) (A : Atoms 𝓤) (mem : Memory → SProp 𝓤) (run : Routine → Fun 𝓤) where
   -- ---- what is handed to standard output: so many first bytes of the room as the answer says
 
-  -- file, input, whether for people, the room
+  -- file, input, whether for people, the air, the room
   pub print-answer-tells : Tells 𝓤 print-answer.ended (print-answer.clauses 𝓤 H A mem run)
-      (λ κs passed a x. take a (now (x .1 .1 .1 .0))
-      ≡ places (passed .1 .1 .0) (now (passed .0)) (now (passed .1 .0)))
+      (λ κs passed a x. take a (now (x .1 .1 .1 .1 .0))
+      ≡ places (passed .1 .1 .0) (passed .1 .1 .1 .0) (now (passed .0)) (now (passed .1 .0)))
   print-answer-tells κs passed g a x = clauses-told 𝓤 (λ e f. printed a _ _ _ e f)
 
   -- and so of all bytes of the file and of standard input, where what is passed was kept of them
   pub places-tells : Tells 𝓤 print-answer.ended (print-answer.clauses 𝓤 H A mem run)
       (λ κs passed a x. (file input : List ℕ)
       → now (passed .0) ≡ keptOfFile file → now (passed .1 .0) ≡ keptOfInput input
-      → take a (now (x .1 .1 .1 .0)) ≡ places (passed .1 .1 .0) file input)
+      → take a (now (x .1 .1 .1 .1 .0)) ≡ places (passed .1 .1 .0) (passed .1 .1 .1 .0) file input)
   places-tells κs passed g a x = clauses-told 𝓤 (λ e f file input h k.
-      printed a _ _ _ e f ∙ rw (h, k) (kept-decides (passed .1 .1 .0) file input))
+      printed a _ _ _ e f ∙ rw (h, k) (kept-decides (passed .1 .1 .0) (passed .1 .1 .1 .0) file input))
 
   -- ---- what is read: no more than the room holds, and of a line what would be kept of it again
 
@@ -103,8 +104,8 @@ module _ {M : Type 1} (𝓤 : URA M) (H : Heap 𝓤) (A : Atoms 𝓤) (mem : Mem
   pub print-answer-asks-nothing : AsksNothing 𝓤 print-answer.ended (print-answer.clauses 𝓤 H A mem run)
   print-answer-asks-nothing κs passed g = refl
 
-  pub is-command-asks-nothing : AsksNothing 𝓤 is-command.ended (is-command.clauses 𝓤 H A mem run)
-  is-command-asks-nothing κs passed g = refl
+  pub command-of-asks-nothing : AsksNothing 𝓤 command-of.ended (command-of.clauses 𝓤 H A mem run)
+  command-of-asks-nothing κs passed g = refl
 
   pub read-file-asks-nothing : AsksNothing 𝓤 read-file.ended (read-file.clauses 𝓤 H A mem run)
   read-file-asks-nothing κs passed g = refl

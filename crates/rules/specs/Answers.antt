@@ -1,9 +1,11 @@
 -- docs/RULES.md, "Refusal numbers": the number and values of each answer. Definitions only.
+use Prim.Native.Nat.{ℕ}
 use mathlib.Core.List.{List, [], _∷_, _++_}
 use lib.IntN.{ℤ, pos}
 use Rattle.rules.specs.Data.{Pair, Moment, Numbered, Dated, Instants, Line, Angle, Precessed, FiveArguments, Nutated}
-use Rattle.rules.specs.Data.{Turned, Prepared, Placed, Listed, ListedStar}
-use Rattle.rules.specs.Refusals.{Answer, given, refused, otherForm}
+use Rattle.rules.specs.Data.{Turned, Prepared, Placed, Observed, Listed, ListedStar}
+use Rattle.rules.specs.Data.{Weather, Weathered, Refusal}
+use Rattle.rules.specs.Refusals.{number, Answer, given, refused, otherForm}
 
 -- the day number
 unfoldable pub numberedAnswer : Numbered → Answer
@@ -58,6 +60,21 @@ turnedAnswer (Turned.Refused r) = refused r 3
 unfoldable pub placedAnswer : Placed → Answer
 placedAnswer (Placed.At p) = given (p .ra ∷ p .declination ∷ p .azimuth ∷ p .altitude ∷ [])
 placedAnswer (Placed.Refused r) = refused r 4
+
+-- right ascension, declination, azimuth, altitude, observed altitude
+unfoldable pub observedAnswer : Observed → Answer
+observedAnswer (Observed.At p a) = given (p .ra ∷ p .declination ∷ p .azimuth ∷ p .altitude ∷ a ∷ [])
+observedAnswer (Observed.Refused r) = refused r 5
+
+-- 0 or 14; the record's floats are no whole numbers, so it stands beside its number
+unfoldable pub weatheredNumber : Weathered → ℕ
+weatheredNumber (Weathered.Now w) = 0
+weatheredNumber (Weathered.Refused w) = number Refusal.Reading
+
+-- the record: 02, C-11: "the record stays"
+unfoldable pub weatheredRecord : Weathered → Weather
+weatheredRecord (Weathered.Now w) = w
+weatheredRecord (Weathered.Refused w) = w
 
 -- the count
 unfoldable pub listedAnswer : Listed → Answer

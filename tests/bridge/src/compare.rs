@@ -20,12 +20,34 @@ pub fn compare<const GIVEN: usize, const ANSWERED: usize>(
     compare_lent(function, what, calls, |call| second(call.given));
 }
 
+/// The same where an answer is told from another only as far as `told` tells them apart.
+pub fn compare_told<const GIVEN: usize, const ANSWERED: usize>(
+    function: &Function<GIVEN, ANSWERED>,
+    what: &str,
+    calls: impl IntoIterator<Item = [i64; GIVEN]>,
+    told: impl Fn([i64; ANSWERED]) -> [i64; ANSWERED],
+    second: impl Fn([i64; GIVEN]) -> [i64; ANSWERED],
+) {
+    let calls = calls.into_iter().map(Call::from);
+    compare_all(function, what, calls, told, |call| second(call.given));
+}
+
 /// Compares the function's answer, and the room that it was lent, with the second program's over all the calls, and prints
 /// how many there were. A mismatch ends the test with both answers.
 pub fn compare_lent<const GIVEN: usize, const ANSWERED: usize>(
     function: &Function<GIVEN, ANSWERED>,
     what: &str,
     calls: impl IntoIterator<Item = Call<GIVEN>>,
+    second: impl Fn(&mut Call<GIVEN>) -> [i64; ANSWERED],
+) {
+    compare_all(function, what, calls, |answer| answer, second);
+}
+
+fn compare_all<const GIVEN: usize, const ANSWERED: usize>(
+    function: &Function<GIVEN, ANSWERED>,
+    what: &str,
+    calls: impl IntoIterator<Item = Call<GIVEN>>,
+    told: impl Fn([i64; ANSWERED]) -> [i64; ANSWERED],
     second: impl Fn(&mut Call<GIVEN>) -> [i64; ANSWERED],
 ) {
     let (mut compared, mut answered) = (0, 0);
@@ -41,7 +63,7 @@ pub fn compare_lent<const GIVEN: usize, const ANSWERED: usize>(
         for ((given, ours), answer) in given.into_iter().zip(ours).zip(answers) {
             let mut theirs = given.clone();
             let expected = second(&mut theirs);
-            if (answer, &ours.room, &ours.read) != (expected, &theirs.room, &theirs.read) {
+            if (told(answer), &ours.room, &ours.read) != (told(expected), &theirs.room, &theirs.read) {
                 panic!(
                     "{} differs, seed {}\n  given   {}\n  module  {}\n  second  {}",
                     function.name,

@@ -3,9 +3,9 @@
 
 #[cfg(linked)]
 use crate::entries::ENTRY;
-#[cfg(linked)]
-use crate::function::Words;
 use crate::function::{exported, Function, Room};
+#[cfg(linked)]
+use crate::function::{Parameter, Words};
 
 #[cfg(exported = "whole")]
 exported! {
@@ -104,6 +104,25 @@ exported! {
         latitude: i64, longitude: i64,
         ra: i64, declination: i64, ra_motion: i32, declination_motion: i32
     ) -> (refused, ra, declination, azimuth, altitude);
+}
+
+#[cfg(exported = "weather")]
+exported! {
+    /// The weather record with one more reading of the probe.
+    WEATHER = turbelicus_weather(
+        pressure: f32, temperature: f32, has_pressure: i32, has_temperature: i32, kind: i32, reading: f32
+    ) -> (refused, pressure_and_temperature, has_pressure_and_has_temperature);
+    /// A true altitude as it is observed.
+    OBSERVED_ALTITUDE = turbelicus_observed_altitude(
+        altitude: i64, pressure: f32, temperature: f32, has_pressure: i32, has_temperature: i32
+    ) -> (refused, altitude);
+    /// The place of a star, and its observed altitude.
+    OBSERVED_PLACE = turbelicus_observed_place(
+        year: i32, month: i32, day: i32, hour: i32, minute: i32, second: i32, ms: i32, ut1_minus_utc: i32,
+        latitude: i64, longitude: i64,
+        ra: i64, declination: i64, ra_motion: i32, declination_motion: i32,
+        pressure: f32, temperature: f32, has_pressure: i32, has_temperature: i32
+    ) -> (refused, ra, declination, azimuth, altitude, observed_altitude);
 }
 
 /// The number of records of a list file.

@@ -1,4 +1,6 @@
 //! An exported function as the tests see it: 64-bit words in, words out, and perhaps bytes lent.
+//!
+//! A float is given as the word of its 32 bits. Two parts of 32 bits are answered as one word, the first its lower half.
 
 #[cfg(linked)]
 use std::env;
@@ -40,7 +42,7 @@ pub struct Function<const GIVEN: usize, const ANSWERED: usize> {
     pub linked: fn(&mut Call<GIVEN>) -> [i64; ANSWERED],
 }
 
-/// The answer of every exported function is a C struct of 64-bit numbers, or one such number, which C returns alike.
+/// The answer of every exported function is a C struct of whole 64-bit words, or one such number, which C returns alike.
 #[cfg(linked)]
 #[repr(C)]
 pub struct Words<const ANSWERED: usize>(pub [i64; ANSWERED]);
@@ -74,6 +76,34 @@ fn through_driver() -> bool {
     }
 }
 
+/// A parameter of a C type, from the word that stands for it.
+#[cfg(linked)]
+pub trait Parameter {
+    fn of_word(word: i64) -> Self;
+}
+
+#[cfg(linked)]
+impl Parameter for i64 {
+    fn of_word(word: i64) -> Self {
+        word
+    }
+}
+
+#[cfg(linked)]
+impl Parameter for i32 {
+    fn of_word(word: i64) -> Self {
+        word.try_into().expect("a number of the C type")
+    }
+}
+
+/// The word is that of the float's bits.
+#[cfg(linked)]
+impl Parameter for f32 {
+    fn of_word(word: i64) -> Self {
+        f32::from_bits(word.try_into().expect("32 bits of a float"))
+    }
+}
+
 /// Declares exported functions of numbers: `CONSTANT = name(part: C type, ..) -> (word, ..);`.
 macro_rules! exported {
     ($($(#[$about:meta])* $constant:ident = $name:ident($($part:ident: $kind:ty),+) -> ($($word:ident),+);)*) => {$(
@@ -90,7 +120,7 @@ macro_rules! exported {
                 }
                 let [$($part),+] = call.given;
                 // Safety: `tests/exports` says that the archive has it; numbers alone go in and out.
-                unsafe { $name($(<$kind>::try_from($part).expect("a number of the C type")),+) }.0
+                unsafe { $name($(<$kind>::of_word($part)),+) }.0
             },
         };
     )*};

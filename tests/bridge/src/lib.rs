@@ -13,6 +13,8 @@ mod driver;
 pub mod entries;
 pub mod face;
 pub mod files;
+pub mod floats;
 pub mod function;
 pub mod ranges;
+pub mod records;
 pub mod steps;

@@ -10,6 +10,7 @@ FILE *fopen(const char *name, const char *mode);
 int fclose(FILE *stream);
 int ferror(FILE *stream);
 int fflush(FILE *stream);
+char *fgets(char *line, int size, FILE *stream);
 size_t fread(void *bytes, size_t size, size_t count, FILE *stream);
 size_t fwrite(const void *bytes, size_t size, size_t count, FILE *stream);
 #endif

@@ -1,21 +1,25 @@
 //! The program `places` a second time, over the second program: tests/places holds the proved one to what this prints.
 //!
-//!     cargo run --release --package second --example places -- FILE [sexagesimal] <LINE
+//!     cargo run --release --package second --example places -- FILE [sexagesimal] [PRESSURE TEMPERATURE] <LINE
 
 use std::io::BufRead;
 
 use second::dates::{moment_of_line, Moment};
 use second::place::{Place, Site, Star};
+use second::refusals::{self, unless, Refusal};
 use second::rounding::rnd;
 use second::star_list::{night_list, read, Entry, FOUR_NOUGHTS, MOST_ENTRIES};
 use second::units::Whole;
+use second::weather::lift_at;
+
+/// Pressure and temperature of a command in tenths, where it has them.
+type Air = Option<[Whole; 2]>;
 
 fn main() {
     let words: Vec<String> = std::env::args().skip(1).collect();
-    let (path, people) = match words.as_slice() {
-        [path] => (path, false),
-        [path, word] if word == "sexagesimal" => (path, true),
-        _ => return eprintln!("usage: places FILE [sexagesimal]"),
+    let words: Vec<&str> = words.iter().map(String::as_str).collect();
+    let Some((path, people, air)) = command(&words) else {
+        return eprintln!("usage: places FILE [sexagesimal] [PRESSURE TEMPERATURE]");
     };
     let file = match std::fs::read(path) {
         Ok(file) => file,
@@ -24,21 +28,66 @@ fn main() {
     let mut line = Vec::new();
     std::io::stdin().lock().read_until(b'\n', &mut line).expect("standard input can be read");
     let line = line.strip_suffix(b"\n").unwrap_or(&line);
-    match answer(&file, line) {
-        Ok(entries) => print(&entries, people),
+    match answer(&file, line, air) {
+        Ok(entries) => print(&entries, people, air.is_some()),
         Err(number) => println!("refused {number}"),
     }
 }
 
-/// The file first, then the form of the line, then date and site.
-fn answer(file: &[u8], line: &[u8]) -> Result<Vec<Entry>, i64> {
+/// The path, whether for people, and the air.
+fn command<'a>(words: &[&'a str]) -> Option<(&'a str, bool, Air)> {
+    let (path, words) = words.split_first()?;
+    let (people, words) = match words {
+        ["sexagesimal"] | ["sexagesimal", _, _] => (true, &words[1..]),
+        _ => (false, words),
+    };
+    let air = match words {
+        [] => None,
+        [pressure, temperature] => Some([tenths(pressure)?, tenths(temperature)?]),
+        _ => return None,
+    };
+    Some((path, people, air))
+}
+
+/// An optional minus, 1 to 4 digits, and then nothing or a point and one digit: 10 × whole + digit, with the sign.
+fn tenths(word: &str) -> Option<Whole> {
+    let size = word.strip_prefix('-').unwrap_or(word);
+    let (whole, digit) = size.split_once('.').unwrap_or((size, "0"));
+    let digits = |text: &str| text.bytes().all(|byte| byte.is_ascii_digit());
+    if !(1..=4).contains(&whole.len()) || digit.len() != 1 || !digits(whole) || !digits(digit) {
+        return None;
+    }
+    let tenths = 10 * whole.parse::<Whole>().ok()? + digit.parse::<Whole>().ok()?;
+    Some(if size == word { tenths } else { -tenths })
+}
+
+/// An entry, and its observed altitude.
+type Seen = (Entry, Whole);
+
+/// The file first, then the form of the line, then date and site, then the air.
+fn answer(file: &[u8], line: &[u8], air: Air) -> Result<Vec<Seen>, Refusal> {
     let star = Star { right_ascension: 0, declination: 0, motion_right_ascension: 0, motion_declination: 0 };
     let mut entries = vec![Entry { star, mark: 0, place: FOUR_NOUGHTS }; MOST_ENTRIES];
     let count = read(file, &mut entries)?;
     entries.truncate(count);
     let (moment, site) = asked(line).ok_or(0)?;
     night_list(moment, site, &mut entries)?;
-    Ok(entries)
+    if let Some([pressure, temperature]) = air {
+        let accepted = (5000..=11_000).contains(&pressure) && (-500..=500).contains(&temperature);
+        unless(accepted, refusals::READING)?;
+    }
+    Ok(entries.into_iter().map(|entry| (entry, observed(&entry, air))).collect())
+}
+
+/// Of an entry with mark 0 its altitude and the lift, of any other 0.
+fn observed(entry: &Entry, air: Air) -> Whole {
+    match (entry.mark, air) {
+        (0, Some([pressure, temperature])) => {
+            let altitude = entry.place.altitude;
+            altitude + lift_at(pressure, temperature, altitude)
+        }
+        _ => 0,
+    }
 }
 
 /// A line of `times`, a space, the latitude, a space, the longitude.
@@ -58,16 +107,17 @@ fn angle(word: &[u8]) -> Option<Whole> {
     std::str::from_utf8(word).ok()?.parse().ok()
 }
 
-fn print(entries: &[Entry], people: bool) {
-    println!("entry mark ra dec az alt");
-    for (index, Entry { mark, place, .. }) in entries.iter().enumerate() {
+fn print(entries: &[Seen], people: bool, observed: bool) {
+    println!("entry mark ra dec az alt{}", if observed { " obs" } else { "" });
+    for (index, (Entry { mark, place, .. }, height)) in entries.iter().enumerate() {
         let Place { right_ascension, declination, azimuth, altitude } = *place;
         let angles = if people {
-            [hours(right_ascension), signed(declination), degrees(azimuth), signed(altitude)]
+            [hours(right_ascension), signed(declination), degrees(azimuth), signed(altitude), signed(*height)]
         } else {
-            [right_ascension, declination, azimuth, altitude].map(|angle| angle.to_string())
+            [right_ascension, declination, azimuth, altitude, *height].map(|angle| angle.to_string())
         };
-        println!("{index} {mark} {}", angles.join(" "));
+        let columns = if observed { 5 } else { 4 };
+        println!("{index} {mark} {}", angles[..columns].join(" "));
     }
 }
 

@@ -1,4 +1,4 @@
-//! Document 01, "Refusal numbers". An answer is what was worked out, or the number of its refusal.
+//! Document 01, "Refusal numbers", and document 02's. An answer is what was worked out, or the number of its refusal.
 
 pub type Refusal = i64;
 
@@ -15,6 +15,7 @@ pub const COUNT: Refusal = 10;
 pub const ROOM: Refusal = 11;
 pub const INSTANT: Refusal = 12;
 pub const LENGTH: Refusal = 13;
+pub const READING: Refusal = 14;
 
 /// Refused by this number, unless the condition holds.
 pub fn unless(condition: bool, refusal: Refusal) -> Result<(), Refusal> {

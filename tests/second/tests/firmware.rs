@@ -1,33 +1,70 @@
-//! What the firmware prints is stored in firmware/expected.txt; here the second program says what it must be.
+//! What the firmware prints is stored in firmware/expected.txt, and in expected_weather.txt with the weather of weather.txt;
+//! here the second program says what it must be.
 
 use second::dates::moment_of_line;
-use second::place::{place, Site};
+use second::place::Site;
 use second::star_list::stars;
 use second::units::Whole;
+use second::weather::{observed_place, Float, Reading, Weather, NO_WEATHER};
 
-/// The site, the date and the lowest altitude of firmware/main.c and of its run in the gate.
+/// The site and the lowest altitude of firmware/main.c.
 const SITE: Site = Site { latitude: 180_316_000_000, longitude: 51_915_000_000 };
-const DATE: &[u8] = b"2026-03-20 20:00:00.000 0";
 const LOWEST: Whole = 36_000_000_000;
+
+/// The dates of its two runs in the gate.
+const DATE: &[u8] = b"2026-03-20 20:00:00.000 0";
+const DATE_WITH_WEATHER: &[u8] = b"2026-03-20 21:14:30.000 0";
 
 #[test]
 fn expected_is_what_the_second_program_answers() {
-    let folder = concat!(env!("CARGO_MANIFEST_DIR"), "/../../firmware");
-    let file = std::fs::read(format!("{folder}/stars.slt")).expect("the list can be read");
-    let expected = std::fs::read_to_string(format!("{folder}/expected.txt")).expect("the output can be read");
-    let moment = moment_of_line(DATE).expect("a date");
+    assert_eq!(printed(DATE, NO_WEATHER), stored("expected.txt"));
+}
+
+#[test]
+fn expected_with_weather_is_what_the_second_program_answers() {
+    let weather = stored("weather.txt").lines().fold(NO_WEATHER, |weather, line| {
+        weather.with(reading(line)).expect("the stored readings are accepted")
+    });
+    let lifted = printed(DATE_WITH_WEATHER, weather);
+    assert_eq!(lifted, stored("expected_weather.txt"));
+    // the air lifts a star into the mount's reach
+    assert!(printed(DATE_WITH_WEATHER, NO_WEATHER).contains("below") && !lifted.contains("below"));
+}
+
+fn path(name: &str) -> String {
+    format!("{}/../../firmware/{name}", env!("CARGO_MANIFEST_DIR"))
+}
+
+fn stored(name: &str) -> String {
+    std::fs::read_to_string(path(name)).expect("the stored text can be read")
+}
+
+/// `P` and hPa, `T` and degrees, or an empty line for nothing.
+fn reading(line: &str) -> Reading {
+    let float = |text: &str| Float(text.parse::<f32>().expect("a number").to_bits());
+    match line.split_once(' ') {
+        Some(("P", pressure)) => Reading::Pressure(float(pressure)),
+        Some(("T", temperature)) => Reading::Temperature(float(temperature)),
+        _ if line.is_empty() => Reading::Nothing,
+        _ => panic!("{line:?} is no reading"),
+    }
+}
+
+fn printed(date: &[u8], weather: Weather) -> String {
+    let file = std::fs::read(path("stars.slt")).expect("the list can be read");
+    let moment = moment_of_line(date).expect("a date");
     let mut printed = String::new();
     for (number, star) in stars(&file).expect("a list").into_iter().enumerate() {
-        let place = place(moment, SITE, star).expect("a place");
-        let target = if place.altitude < LOWEST {
+        let (place, altitude) = observed_place(moment, SITE, star, weather).expect("a place");
+        let target = if altitude < LOWEST {
             String::from("below")
         } else {
-            format!("{} {}", arcseconds(place.azimuth), arcseconds(place.altitude))
+            format!("{} {}", arcseconds(place.azimuth), arcseconds(altitude))
         };
         printed += &format!("{number} {target}\n");
     }
     assert!(!printed.is_empty());
-    assert_eq!(printed, expected);
+    printed
 }
 
 /// Of an angle that is not below nought: above the lowest altitude both are so.

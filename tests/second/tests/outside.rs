@@ -11,8 +11,10 @@ use second::place::{apparent, horizontal, local_sidereal, Star};
 use second::reading::{height, reading};
 use second::turning::{turn, Direction};
 use second::units::{Whole, CIRCLE, DAY, HALF_CIRCLE, UNIT};
+use second::weather::{lift, Float, Weather};
 
-/// An arcsecond, and a second of right ascension, in µas.
+/// An arcminute, an arcsecond, and a second of right ascension, in µas.
+const ARCMINUTE: f64 = 60e6;
 const ARCSECOND: f64 = 1e6;
 const SECOND: f64 = 15e6;
 
@@ -113,6 +115,43 @@ fn meeus_horizontal_place() {
     let published = from_degrees(180.0 + 68.0337, 0.0, 0.0);
     assert_near(reading(-ours.x, ours.y), published, tolerance);
     assert_near(height(ours), from_degrees(15.1249, 0.0, 0.0), tolerance);
+}
+
+/// Sæmundsson's formula (Sky and Telescope 72, 70 (1986); Meeus, chapter 16, formula 16.4): true altitude in degrees, lift
+/// in arcminutes, at 1010 hPa and 10 degrees.
+fn saemundsson(altitude: f64) -> f64 {
+    1.02 / (altitude + 10.3 / (altitude + 5.11)).to_radians().tan()
+}
+
+/// Degrees of altitude lifted at a pressure and a temperature.
+fn lifted(altitude: f64, pressure: f32, temperature: f32) -> Whole {
+    let float = |value: f32| Some(Float(value.to_bits()));
+    let weather = Weather { pressure: float(pressure), temperature: float(temperature) };
+    lift(from_degrees(altitude, 0.0, 0.0).round() as Whole, weather)
+}
+
+/// The lift at the horizon, at 10 and at 45 degrees, to all figures that are written; and by the formula, which is worked
+/// in floats, from the lowest altitude that is lifted until it comes down to nought near the zenith.
+#[test]
+fn saemundsson_refraction() {
+    let tolerance = 0.000_01 * ARCMINUTE;
+    for (altitude, arcminutes) in [(0.0, 28.98193), (10.0, 5.40768), (45.0, 1.01271)] {
+        assert_near(lifted(altitude, 1010.0, 10.0), arcminutes * ARCMINUTE, tolerance);
+    }
+    for step in -100..8_980 {
+        let altitude = f64::from(step) / 100.0;
+        let formula = saemundsson(altitude) * ARCMINUTE;
+        assert_near(lifted(altitude, 1010.0, 10.0), formula, tolerance);
+        // Meeus, chapter 16: for another weather the lift is multiplied by P/1010 × 283/(273 + T)
+        let factor = 850.0 / 1010.0 * 283.0 / (273.0 - 30.0);
+        assert_near(lifted(altitude, 850.0, -30.0), formula * factor, tolerance);
+    }
+}
+
+/// Meeus, example 16.a: the Sun's upper limb at a true altitude of 0.5541 degrees is lifted by 24.618 arcminutes.
+#[test]
+fn meeus_refraction() {
+    assert_near(lifted(0.5541, 1010.0, 10.0), 24.618 * ARCMINUTE, 0.001 * ARCMINUTE);
 }
 
 /// The pair is within 4 parts of the true cosine and sine, the reading a few thousandths of an arcsecond from the true angle.

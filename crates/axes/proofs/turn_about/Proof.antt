@@ -1,8 +1,7 @@
 -- `axes::turn_about` meets its contract: the branch taken is that of the axis.
-use mathlib.Core.Path.{_≡_, refl, ap, sym, _∙_}
-use mathlib.Core.Bool.{Bool, true, false}
+use mathlib.Core.Path.{_≡_, ap, sym, _∙_}
+use mathlib.Core.Bool.{true, false}
 use borrow.Author.Needs.{needs}
-use lib.IntN.{ℤ}
 use mir.Syntax.{w64}
 use mir.Val.{toZ, ofZ}
 use mir.Facts.{toZ-ofZ}
@@ -10,23 +9,13 @@ use Rattle.rules.specs.declared.Pair.{Pair}
 use Rattle.rules.specs.declared.Direction.{Direction}
 use Rattle.rules.specs.Units.{+_, same}
 use Rattle.rules.specs.Turning.{exchanged, turn1, turn2, turnAbout}
-use Rattle.laws.specs.Units.{same-eq, same-self}
+use Rattle.laws.specs.Units.{same-of, not-same}
 use Rattle.laws.specs.Turning.{exchanged-squares}
 use Rattle.axes.specs.Given.{TurnFits}
 use Rattle.axes.proofs.turn_about.Statement.{statement}
 use Rattle.axes.proofs.turn_about.Tie as tie
 
 -- ---- the axis
-
-same-of : (a : ℤ) (n : ℤ) → a ≡ n → same a n ≡ true
-same-of a n e = ap (λ z. same z n) e ∙ same-self n
-
-not-same : (a n : ℤ) → (a ≡ n → ⊥) → same a n ≡ false
-not-same a n h = by (same a n) (same-eq a n)
-  where
-    by : (b : Bool) → (b ≡ true → a ≡ n) → b ≡ false
-    by true f = absurd (h (f refl))
-    by false f = refl
 
 is-1 : (c : tie.Then1) → same (c .before .args .axis) (+ 1) ≡ true
 is-1 c = same-of (c .before .args .axis) (+ 1) (sym (toZ-ofZ (c .before .fits .axis)) ∙ ap (toZ w64) (c .if1 .taken))

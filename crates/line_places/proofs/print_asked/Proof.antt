@@ -4,9 +4,10 @@ use lib.ListN.{length}
 use lib.Seq.{sets}
 use borrow.Author.Needs.{needs}
 use Rattle.rules.specs.Times.{ended}
-use Rattle.line_places.specs.Listed.{WorkedShort}
+use Rattle.line_places.specs.Room.{WorkedPrintable}
 use Rattle.line_places.specs.Printed.{ended-refused}
-use Rattle.line_places.specs.ListedLines.{worked-short, asked-for, asked-other}
+use Rattle.line_places.specs.ShortLines.{worked-printable}
+use Rattle.line_places.specs.ListedLines.{asked-for, asked-other}
 use Rattle.line_places.proofs.print_asked.Statement.{statement}
 use Rattle.line_places.proofs.print_asked.Tie as tie
 
@@ -19,15 +20,11 @@ work-requires c κs = search needs
 print-worked-requires : tie.Need-print-worked-requires
 print-worked-requires c κs =
     let s = c .before .before .before .before .before .before in
-    let k = c .before .before .before .asked .given .0 in (
-      s .pre .0,
-      (
-        subst (WorkedShort (s .args .people) (s .args .count)) (sym (c .before .work .ensures))
-            (worked-short (s .args .people) (k .0) (k .1 .0) (s .args .count) (s .args .listing .entries)
-            (s .pre .0)),
-        s .pre .1,
-      ),
-    )
+    let k = c .before .before .before .asked .given .0 in
+    subst (λ l. WorkedPrintable (s .args .people) (s .args .air) l (s .args .count) (length (s .args .out .now)))
+    (sym (c .before .work .ensures))
+    (worked-printable (s .args .people) (s .args .air) (k .0) (k .1 .0) (s .args .count) (s .args .listing .entries)
+    (length (s .args .out .now)) (s .pre .0) (s .pre .1))
 
 enum-told : tie.Need-enum-told
 enum-told c = search needs
@@ -44,8 +41,8 @@ returns c =
     let k = w .before .before .asked .given in
     let s = w .before .before .before .before .before in
     let put = c .before .before .print-worked .ensures in
-    let is = ap ended (asked-for (s .args .people) (s .args .asked) (s .args .listing .entries) (s .args .count)
-    (k .0 .0) (k .0 .1 .0) (w .work .result) (k .1) (w .work .ensures)) in
+    let is = ap ended (asked-for (s .args .people) (s .args .air) (s .args .asked) (s .args .listing .entries)
+    (s .args .count) (k .0 .0) (k .0 .1 .0) (w .work .result) (k .1) (w .work .ensures)) in
     (put .0 ∙ ap length is, put .1 ∙ ap (sets (s .args .out .now) 0) is)
 
 same-length-2 : tie.Need-same-length-2
@@ -57,7 +54,8 @@ returns-2 c =
     let k = c .before .before .before .before .enum-told .given in
     let put = c .before .before .put-refusal .ensures in
     let is = ended-refused 0
-    ∙ ap ended (sym (asked-other (s .args .people) (s .args .asked) (s .args .listing .entries) (s .args .count) (k .1))) in
+    ∙ ap ended (sym (asked-other (s .args .people) (s .args .air) (s .args .asked) (s .args .listing .entries)
+    (s .args .count) (k .1))) in
     (put .0 ∙ ap length is, put .1 ∙ ap (sets (s .args .out .now) 0) is)
 
 pub print-asked-spec : {M : Type 1} → statement M

@@ -3,9 +3,8 @@ use mathlib.Core.Path.{sym, ap, _∙_}
 use mathlib.Core.List.{[], _∷_}
 use lib.ListN.{length}
 use lib.Seq.{sets}
-use mir.Syntax.{w64}
-use mir.Facts.{toZ-ofZ}
-use borrow.Author.Needs.{needs, sfits-of}
+use borrow.Author.Needs.{needs}
+use Rattle.words.specs.Fits.{held64}
 use Rattle.rules.specs.Refusals.{number}
 use Rattle.rules.specs.Times.{ended}
 use Rattle.decimals.specs.Refused.{refusedTo}
@@ -17,11 +16,11 @@ use Rattle.line_places.proofs.print_worked.Tie as tie
 enum-told : tie.Need-enum-told
 enum-told c = search needs
 
-put-entries-requires : tie.Need-put-entries-requires
-put-entries-requires c κs =
+print-accepted-requires : tie.Need-print-accepted-requires
+print-accepted-requires c κs =
     let s = c .before .before .before .before in
     let k = c .before .enum-told .given in
-    (s .pre .0, (s .pre .1 .0 (k .0 .0) (k .1), s .pre .1 .1))
+    s .pre .entries (k .0 .0) (k .1)
 
 enum-known-answer : tie.Need-enum-known-answer
 enum-known-answer c = search needs
@@ -39,8 +38,9 @@ returns : tie.Need-returns
 returns c =
     let s = c .before .before .before .before .before .before .before in
     let k = c .before .before .before .before .enum-told .given in
-    let put = c .before .before .put-entries .ensures in
-    let is = ap ended (sym (worked-counted (s .args .people) (s .args .count) (s .args .worked) (k .0 .0) (k .1))) in
+    let put = c .before .before .print-accepted .ensures in
+    let is = ap ended (sym (worked-counted (s .args .people) (s .args .air) (s .args .count) (s .args .worked)
+    (k .0 .0) (k .1))) in
     (put .0 ∙ ap length is, put .1 ∙ ap (sets (s .args .out .now) 0) is)
 
 same-length-2 : tie.Need-same-length-2
@@ -52,9 +52,10 @@ returns-2 c =
     let k = n .before .before .answer .given in
     let s = n .before .before .before .before .before in
     let put = c .before .before .put-refusal .ensures in
-    let is = ap (λ z. ended (refusedTo z ∷ [])) (toZ-ofZ {w = w64} (sfits-of (n .number .ok)) ∙ n .number .ensures)
+    let is = ap (λ z. ended (refusedTo z ∷ [])) (held64 (n .number .result) (n .number .ok) ∙ n .number .ensures)
     ∙ ended-refused (number (k .0 .0))
-    ∙ ap ended (sym (worked-refused (s .args .people) (s .args .count) (s .args .worked) (k .0 .0) (k .1))) in
+    ∙ ap ended (sym (worked-refused (s .args .people) (s .args .air) (s .args .count) (s .args .worked) (k .0 .0)
+    (k .1))) in
     (put .0 ∙ ap length is, put .1 ∙ ap (sets (s .args .out .now) 0) is)
 
 pub print-worked-spec : {M : Type 1} → statement M
@@ -62,7 +63,7 @@ print-worked-spec =
     tie.close
     (tie.spec
     enum-told
-    put-entries-requires
+    print-accepted-requires
     enum-known-answer
     number-requires
     put-refusal-requires

@@ -62,7 +62,7 @@ print-answer-requires : tie.Need-print-answer-requires
 print-answer-requires c κs = search needs
 
 -- what is printed, at the front of its room
-inside : (c : tie.After-print-answer) → c .print-answer .result ≤ length (c .print-answer .last .1 .1 .1 .0)
+inside : (c : tie.After-print-answer) → c .print-answer .result ≤ length (c .print-answer .last .1 .1 .1 .1 .0)
 inside c = front-le _ _ _ _ (c .print-answer .ensures .0) (c .print-answer .ensures .1)
 
 array-share-prefix-out : tie.Need-array-share-prefix-out
@@ -70,7 +70,7 @@ array-share-prefix-out c = inside c
 
 slice-aggregate-write-all : tie.Need-slice-aggregate-write-all
 slice-aggregate-write-all c = let p = c .before .print-answer in sym
-    (length-take-le (p .result) (p .last .1 .1 .1 .0) (inside (c .before)))
+    (length-take-le (p .result) (p .last .1 .1 .1 .1 .0) (inside (c .before)))
 
 write-all-requires : tie.Need-write-all-requires
 write-all-requires c κs = search needs

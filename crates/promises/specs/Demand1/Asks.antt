@@ -12,6 +12,9 @@ use Rattle.promises.specs.Contracts.{AsksNothing}
 use Rattle.module.proofs.places.turbelicus_place as turbelicus-place
 use Rattle.module.proofs.turns.turbelicus_turn as turbelicus-turn
 use Rattle.module.proofs.turns.turbelicus_reading as turbelicus-reading
+use Rattle.module.proofs.probe.turbelicus_weather as turbelicus-weather
+use Rattle.module.proofs.probe.turbelicus_observed_altitude as turbelicus-observed-altitude
+use Rattle.module.proofs.observed.turbelicus_observed_place as turbelicus-observed-place
 use Rattle.module.proofs.lists.turbelicus_list_count as turbelicus-list-count
 use Rattle.module.proofs.lists.turbelicus_list_star as turbelicus-list-star
 use Rattle.module.proofs.lists.turbelicus_list_write as turbelicus-list-write
@@ -29,6 +32,8 @@ use Rattle.reading.proofs.reading as reading
 use Rattle.turning.proofs.turn as turn
 use Rattle.place.proofs.place as place
 use Rattle.night.proofs.night_of as night-of
+use Rattle.weather.proofs.kept.take_from as take-from
+use Rattle.refraction.proofs.observed.observed_altitude as observed-altitude
 use Rattle.list_file.proofs.list_count as list-count
 use Rattle.list_file.proofs.list_star as list-star
 use Rattle.list_from_numbers.proofs.list_write as list-write
@@ -48,6 +53,18 @@ module _ {M : Type 1} (𝓤 : URA M) (H : Heap 𝓤) (A : Atoms 𝓤) (mem : Mem
   pub turbelicus-reading-asks-nothing : AsksNothing 𝓤 turbelicus-reading.ended
       (turbelicus-reading.clauses 𝓤 H A mem run)
   turbelicus-reading-asks-nothing κs passed g = refl
+
+  pub turbelicus-weather-asks-nothing : AsksNothing 𝓤 turbelicus-weather.ended
+      (turbelicus-weather.clauses 𝓤 H A mem run)
+  turbelicus-weather-asks-nothing κs passed g = refl
+
+  pub turbelicus-observed-altitude-asks-nothing : AsksNothing 𝓤 turbelicus-observed-altitude.ended
+      (turbelicus-observed-altitude.clauses 𝓤 H A mem run)
+  turbelicus-observed-altitude-asks-nothing κs passed g = refl
+
+  pub turbelicus-observed-place-asks-nothing : AsksNothing 𝓤 turbelicus-observed-place.ended
+      (turbelicus-observed-place.clauses 𝓤 H A mem run)
+  turbelicus-observed-place-asks-nothing κs passed g = refl
 
   pub turbelicus-list-count-asks-nothing : AsksNothing 𝓤 turbelicus-list-count.ended
       (turbelicus-list-count.clauses 𝓤 H A mem run)
@@ -108,6 +125,14 @@ module _ {M : Type 1} (𝓤 : URA M) (H : Heap 𝓤) (A : Atoms 𝓤) (mem : Mem
 
   pub night-of-asks-nothing : AsksNothing 𝓤 night-of.ended (night-of.clauses 𝓤 H A mem run)
   night-of-asks-nothing κs passed g = refl
+
+  -- ---- the weather
+
+  pub take-from-asks-nothing : AsksNothing 𝓤 take-from.ended (take-from.clauses 𝓤 H A mem run)
+  take-from-asks-nothing κs passed g = refl
+
+  pub observed-altitude-asks-nothing : AsksNothing 𝓤 observed-altitude.ended (observed-altitude.clauses 𝓤 H A mem run)
+  observed-altitude-asks-nothing κs passed g = refl
 
   -- ---- lists
 

@@ -1,18 +1,22 @@
--- The checks of each entry point, in the order in which they run: a refusal of document 01's table, and what it is
--- given for. Definitions only.
-use mathlib.Core.Bool.{not}
+-- The checks of each entry point, in the order in which they run: a refusal of the table, and what it is given for.
+-- Definitions only.
+use mathlib.Core.Bool.{Bool, true, false, not, cond}
 use mathlib.Core.List.{List, [], _∷_, _++_}
 use Prim.Native.Nat.{ℕ}
 use lib.Dec.{ltb}
 use lib.ListN.{length}
 use lib.IntN.{ℤ}
+use lib.Ieee.{Float}
 use Rattle.rules.specs.declared.Date.{Date}
 use Rattle.rules.specs.declared.Moment.{Moment}
 use Rattle.rules.specs.declared.Star.{Star}
 use Rattle.rules.specs.declared.Site.{Site}
 use Rattle.rules.specs.declared.Direction.{Direction}
+use Rattle.rules.specs.declared.Reading.{Reading}
+use Rattle.rules.specs.declared.Weather.{Weather}
 use Rattle.rules.specs.declared.Entry.{Entry}
 use Rattle.rules.specs.declared.Refusal.{Refusal}
+use Rattle.rules.specs.Units.{same, +_}
 use Rattle.rules.specs.Checks.{Check, _if_}
 use Rattle.rules.specs.Calendar.{yearRefused, dayRefused, numberRefused, dayNumber}
 use Rattle.rules.specs.Dates.{timeRefused, ut1MinusUtcRefused}
@@ -21,6 +25,7 @@ use Rattle.rules.specs.Length.{lengthRefused}
 use Rattle.rules.specs.Turning.{directionRefused, turnRefused}
 use Rattle.rules.specs.Night.{siteRefused}
 use Rattle.rules.specs.Stars.{starRefused}
+use Rattle.rules.specs.Weather.{isPressure, isTemperature, isAccepted, inRange, mended}
 use Rattle.rules.specs.ListFile.{countIn, anyRefused, stars}
 use Rattle.rules.specs.ListReading.{markRefused, countRefused}
 use Rattle.rules.specs.ListWriting.{starsOf, roomRefused}
@@ -66,6 +71,28 @@ placeChecks m star site = dateChecks m ++ (
     Refusal.Star if starRefused star
     ∷ Refusal.Site if siteRefused site
     ∷ [])
+
+-- a weather record that C kept 14: a reading that has come is not accepted
+abbrev pub recordChecks : Weather → List Check
+recordChecks w = Refusal.Reading if not (inRange (mended w)) ∷ []
+
+-- and one reading more
+abbrev pub readingChecks : Weather → Reading → List Check
+readingChecks w r = recordChecks w ++ (Refusal.Reading if not (isAccepted r) ∷ [])
+
+-- by its kind, 0 nothing, 1 a pressure, 2 a temperature
+abbrev pub kindRefused : ℤ → Float → Bool
+kindRefused kind x =
+    cond (same kind (+ 0)) false
+    (cond (same kind (+ 1)) (not (isPressure x))
+    (cond (same kind (+ 2)) (not (isTemperature x)) true))
+
+abbrev pub kindChecks : Weather → ℤ → Float → List Check
+kindChecks w kind x = recordChecks w ++ (Refusal.Reading if kindRefused kind x ∷ [])
+
+-- a place with its observed altitude: those of the place, then 14, "after all others"
+abbrev pub observedChecks : Moment → Star → Site → Weather → List Check
+observedChecks m star site w = placeChecks m star site ++ recordChecks w
 
 -- a night 1 to 4, 6
 abbrev pub nightChecks : Moment → Site → List Check

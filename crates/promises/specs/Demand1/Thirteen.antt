@@ -1,14 +1,14 @@
 -- Refusal 13, "length to be divided by is nought": the rule of bringing to length gives it, of a length of nought and
 -- of no other, and no entry point comes to it. `ThirteenByContract` and `ThirteenForC` say so of the functions
 -- themselves.
-use mathlib.Core.Path.{_≡_, refl, ap}
+use mathlib.Core.Path.{_≡_, refl, sym, ap, _∙_}
 use mathlib.Core.Logic.{inl, inr, _↔_}
-use mathlib.Core.Bool.{Bool, true, false, _&&_, cond}
+use mathlib.Core.Bool.{Bool, true, false, not, _&&_, cond}
 use mathlib.Core.List.{List, [], _∷_}
-use Prim.Native.Nat.{ℕ, _≤_}
+use Prim.Native.Nat.{ℕ}
 use native.Mathlib.Omega.{arith}
-use lib.Dec.{ltb}
-use borrow.Author.Tests.{eq-eqb, eqb-true, ltb-true}
+use lib.Dec.{eqb}
+use borrow.Author.Tests.{eq-eqb, eqb-true}
 use lib.IntN.{ℤ}
 use Rattle.rules.specs.declared.Moment.{Moment}
 use Rattle.rules.specs.declared.Star.{Star}
@@ -25,9 +25,9 @@ use Rattle.rules.specs.Turning.{turned}
 use Rattle.rules.specs.Night.{nightOf}
 use Rattle.rules.specs.Place.{place}
 use Rattle.laws.specs.Checks.{FirstGiven}
-use Rattle.laws.specs.Ranges.{both-true}
+use Rattle.laws.specs.Ranges.{both-true, true-not-false}
 use Rattle.promises.specs.Demand1.Checks.{lengthChecks, turnChecks, placeChecks, nightChecks}
-use Rattle.promises.specs.Demand1.InOrder.{Refuses, NumbersTo, number-to}
+use Rattle.promises.specs.Demand1.InOrder.{Refuses}
 use Rattle.promises.specs.Demand1.Turns.{length-refused, turn-refused}
 use Rattle.promises.specs.Demand1.Places.{place-refused, night-refused}
 
@@ -59,36 +59,39 @@ Never13 answer refuse = answer ≡ refuse Refusal.Length → ⊥
 -- no check of these has the number 13: to be told by looking
 abbrev pub without13 : List Check → Bool
 without13 [] = true
-without13 (c ∷ cs) = ltb (number (c .refusal)) 13 && without13 cs
+without13 (c ∷ cs) = not (eqb (number (c .refusal)) 13) && without13 cs
 
-numbers-to-12 : (cs : List Check) → without13 cs ≡ true → NumbersTo 12 cs
-numbers-to-12 [] w = tt
-numbers-to-12 (c ∷ cs) w =
-    let both = both-true (ltb (number (c .refusal)) 13) (without13 cs) w in
-    (omega (arith, ltb-true (number (c .refusal)) 13 (both .0)), numbers-to-12 cs (both .1))
+first-not-13 : (cs : List Check) → without13 cs ≡ true → (r : Refusal) → FirstGiven cs r → number r ≡ 13 → ⊥
+first-not-13 [] w r f e = absurd f
+first-not-13 (c ∷ cs) w r (inl f) e =
+    let both = both-true (not (eqb (number (c .refusal)) 13)) (without13 cs) w in
+    true-not-false (sym (both .0) ∙ ap not (eq-eqb (number (c .refusal)) 13 (ap number (f .1) ∙ e)))
+first-not-13 (c ∷ cs) w r (inr f) e =
+    first-not-13 cs (both-true (not (eqb (number (c .refusal)) 13)) (without13 cs) w .1) r (f .1) e
 
 pub never-13 : {A : Type 0} (answer : A) (refuse : Refusal → A) (cs : List Check) → without13 cs ≡ true
     → Refuses answer refuse cs → Never13 answer refuse
 unfolding number
-never-13 answer refuse cs w h e =
-    omega (arith, number-to 12 cs (numbers-to-12 cs w) Refusal.Length (h Refusal.Length .0 e))
+never-13 answer refuse cs w h e = first-not-13 cs w Refusal.Length (h Refusal.Length .0 e) refl
 
-number-le-12 : (cs : List Check) (count : ℕ) (values : List ℤ) → NumbersTo 12 cs
-    → first cs (λ r. refused r count) (given values) .number ≤ 12
+paper-not-13 : (cs : List Check) (count : ℕ) (values : List ℤ) → without13 cs ≡ true
+    → first cs (λ r. refused r count) (given values) .number ≡ 13 → ⊥
 unfolding first given refused
-number-le-12 [] count values small = omega arith
-number-le-12 (c ∷ cs) count values small = by (c .given) (number-le-12 cs count values (small .1))
+paper-not-13 [] count values w e = omega arith
+paper-not-13 (c ∷ cs) count values w e =
+    let both = both-true (not (eqb (number (c .refusal)) 13)) (without13 cs) w in
+    by (c .given) (both .0) (paper-not-13 cs count values (both .1)) e
   where
-    by : (b : Bool) → first cs (λ r. refused r count) (given values) .number ≤ 12
-        → cond b (refused (c .refusal) count) (first cs (λ r. refused r count) (given values)) .number ≤ 12
-    by true rest = small .0
-    by false rest = rest
+    by : (b : Bool) → not (eqb (number (c .refusal)) 13) ≡ true
+        → (first cs (λ r. refused r count) (given values) .number ≡ 13 → ⊥)
+        → cond b (refused (c .refusal) count) (first cs (λ r. refused r count) (given values)) .number ≡ 13 → ⊥
+    by true n rest e = true-not-false (sym n ∙ ap not (eq-eqb (number (c .refusal)) 13 e))
+    by false n rest e = rest e
 
 -- nor is 13 the number of an answer on paper, which C gets
 pub number-not-13 : (answer : Answer) (cs : List Check) (count : ℕ) (values : List ℤ)
     → answer ≡ first cs (λ r. refused r count) (given values) → without13 cs ≡ true → answer .number ≡ 13 → ⊥
-number-not-13 answer cs count values h w e =
-    omega (arith, number-le-12 cs count values (numbers-to-12 cs w), ap (λ a. a .number) h)
+number-not-13 answer cs count values h w e = paper-not-13 cs count values w (sym (ap (λ a. a .number) h) ∙ e)
 
 pub turned-not-13 : (axis angle : ℤ) (v : Direction) → Never13 (turned axis angle v) Turned.Refused
 unfolding number

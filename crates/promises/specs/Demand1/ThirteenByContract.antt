@@ -38,6 +38,7 @@ use Rattle.sidereal.proofs.sidereal as sidereal
 use Rattle.turning.proofs.turn as turn
 use Rattle.place.proofs.place as place
 use Rattle.night.proofs.night_of as night-of
+use Rattle.refraction.proofs.observed.observed_altitude as observed-altitude
 use Rattle.list_file.proofs.list_count as list-count
 use Rattle.list_file.proofs.list_star as list-star
 use Rattle.entries_read.proofs.read_list as read-list
@@ -125,6 +126,14 @@ module _ {M : Type 1} (𝓤 : URA M) (H : Heap 𝓤) (A : Atoms 𝓤) (mem : Mem
   unfolding number
   night-of-not-13 κs passed g a x = so-told 𝓤 (told.night-of-tells 𝓤 H A mem run κs passed g a x)
       (never-13 a Prepared.Refused (checks.nightChecks (passed .0) (passed .1 .0)) refl)
+
+  -- ---- the weather; `weather::kept::take_from` has 14 alone
+
+  pub observed-altitude-not-13 : Tells 𝓤 observed-altitude.ended (observed-altitude.clauses 𝓤 H A mem run)
+      (λ κs passed a x. Never13 a Angle.Refused)
+  unfolding number
+  observed-altitude-not-13 κs passed g a x = so-told 𝓤 (told.observed-altitude-tells 𝓤 H A mem run κs passed g a x)
+      (never-13 a Angle.Refused (checks.recordChecks (passed .1 .0)) refl)
 
   -- ---- lists
 

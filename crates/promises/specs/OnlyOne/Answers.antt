@@ -10,7 +10,11 @@ use Rattle.promises.specs.Contracts.{OneAnswer, one}
 use Rattle.answers.proofs.lists.counted_out as counted-out
 use Rattle.answers.proofs.lists.starred_out as starred-out
 use Rattle.answers.proofs.lists.written_out as written-out
+use Rattle.answers.proofs.observed.altitude_out as altitude-out
+use Rattle.answers.proofs.observed.beside_out as beside-out
 use Rattle.answers.proofs.places.placed_out as placed-out
+use Rattle.answers.proofs.probe.weather_of as weather-of
+use Rattle.answers.proofs.probe.weathered_out as weathered-out
 use Rattle.answers.proofs.turns.turned_out as turned-out
 
 module _ {M : Type 1} (𝓤 : URA M) (H : Heap 𝓤) (A : Atoms 𝓤) (mem : Memory → SProp 𝓤) (run : Routine → Fun 𝓤) where
@@ -23,8 +27,20 @@ module _ {M : Type 1} (𝓤 : URA M) (H : Heap 𝓤) (A : Atoms 𝓤) (mem : Mem
   pub written-out-one : OneAnswer 𝓤 written-out.ended (written-out.clauses 𝓤 H A mem run)
   written-out-one κs passed g r s x y = one 𝓤 r s _
 
+  pub altitude-out-one : OneAnswer 𝓤 altitude-out.ended (altitude-out.clauses 𝓤 H A mem run)
+  altitude-out-one κs passed g r s x y = one 𝓤 r s _
+
+  pub beside-out-one : OneAnswer 𝓤 beside-out.ended (beside-out.clauses 𝓤 H A mem run)
+  beside-out-one κs passed g r s x y = one 𝓤 r s _
+
   pub placed-out-one : OneAnswer 𝓤 placed-out.ended (placed-out.clauses 𝓤 H A mem run)
   placed-out-one κs passed g r s x y = one 𝓤 r s _
+
+  pub weather-of-one : OneAnswer 𝓤 weather-of.ended (weather-of.clauses 𝓤 H A mem run)
+  weather-of-one κs passed g r s x y = one 𝓤 r s _
+
+  pub weathered-out-one : OneAnswer 𝓤 weathered-out.ended (weathered-out.clauses 𝓤 H A mem run)
+  weathered-out-one κs passed g r s x y = one 𝓤 r s _
 
   pub turned-out-one : OneAnswer 𝓤 turned-out.ended (turned-out.clauses 𝓤 H A mem run)
   turned-out-one κs passed g r s x y = one 𝓤 r s _

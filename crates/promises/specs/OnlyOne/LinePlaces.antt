@@ -9,12 +9,12 @@ use contract.Monad.{Fun}
 use denote.Ref.{now}
 use Rattle.promises.specs.Contracts.{OneAnswer, OneAnswerAndContent, one, one-each}
 use Rattle.line_places.proofs.print_answer as print-answer
-use Rattle.line_places.proofs.command.is_command as is-command
+use Rattle.line_places.proofs.command.command_of as command-of
 
 module _ {M : Type 1} (𝓤 : URA M) (H : Heap 𝓤) (A : Atoms 𝓤) (mem : Memory → SProp 𝓤) (run : Routine → Fun 𝓤) where
   pub print-answer-one : OneAnswerAndContent 𝓤 print-answer.ended (print-answer.clauses 𝓤 H A mem run)
-      (λ κs x. now (x .1 .1 .1 .0))
+      (λ κs x. now (x .1 .1 .1 .1 .0))
   print-answer-one κs passed g r s x y = one-each 𝓤 r s _ _ _ _
 
-  pub is-command-one : OneAnswer 𝓤 is-command.ended (is-command.clauses 𝓤 H A mem run)
-  is-command-one κs passed g r s x y = one 𝓤 r s _
+  pub command-of-one : OneAnswer 𝓤 command-of.ended (command-of.clauses 𝓤 H A mem run)
+  command-of-one κs passed g r s x y = one 𝓤 r s _

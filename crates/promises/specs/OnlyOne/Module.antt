@@ -11,7 +11,10 @@ use Rattle.promises.specs.Contracts.{OneAnswer, OneAnswerAndContent, one
 use Rattle.module.proofs.lists.turbelicus_list_count as turbelicus-list-count
 use Rattle.module.proofs.lists.turbelicus_list_star as turbelicus-list-star
 use Rattle.module.proofs.lists.turbelicus_list_write as turbelicus-list-write
+use Rattle.module.proofs.observed.turbelicus_observed_place as turbelicus-observed-place
 use Rattle.module.proofs.places.turbelicus_place as turbelicus-place
+use Rattle.module.proofs.probe.turbelicus_weather as turbelicus-weather
+use Rattle.module.proofs.probe.turbelicus_observed_altitude as turbelicus-observed-altitude
 use Rattle.module.proofs.turns.turbelicus_turn as turbelicus-turn
 use Rattle.module.proofs.turns.turbelicus_reading as turbelicus-reading
 
@@ -27,8 +30,19 @@ module _ {M : Type 1} (𝓤 : URA M) (H : Heap 𝓤) (A : Atoms 𝓤) (mem : Mem
       (λ κs x. now (x .1 .0))
   turbelicus-list-write-one κs passed g r s x y = one-both 𝓤 r s _ _ _ _
 
+  pub turbelicus-observed-place-one : OneAnswer 𝓤 turbelicus-observed-place.ended
+      (turbelicus-observed-place.clauses 𝓤 H A mem run)
+  turbelicus-observed-place-one κs passed g r s x y = one 𝓤 r s _
+
   pub turbelicus-place-one : OneAnswer 𝓤 turbelicus-place.ended (turbelicus-place.clauses 𝓤 H A mem run)
   turbelicus-place-one κs passed g r s x y = one 𝓤 r s _
+
+  pub turbelicus-weather-one : OneAnswer 𝓤 turbelicus-weather.ended (turbelicus-weather.clauses 𝓤 H A mem run)
+  turbelicus-weather-one κs passed g r s x y = one 𝓤 r s _
+
+  pub turbelicus-observed-altitude-one : OneAnswer 𝓤 turbelicus-observed-altitude.ended
+      (turbelicus-observed-altitude.clauses 𝓤 H A mem run)
+  turbelicus-observed-altitude-one κs passed g r s x y = one 𝓤 r s _
 
   pub turbelicus-turn-one : OneAnswer 𝓤 turbelicus-turn.ended (turbelicus-turn.clauses 𝓤 H A mem run)
   turbelicus-turn-one κs passed g r s x y = one 𝓤 r s _

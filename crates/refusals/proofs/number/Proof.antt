@@ -46,6 +46,9 @@ enum-told-12 c = search needs
 enum-told-13 : tie.Need-enum-told-13
 enum-told-13 c = search needs
 
+enum-told-14 : tie.Need-enum-told-14
+enum-told-14 c = search needs
+
 numbered : {r s : Refusal} → r ≡ s → pos (number s) ≡ pos (number r)
 numbered e = sym (ap (λ r. pos (number r)) e)
 
@@ -101,6 +104,10 @@ returns-13 : tie.Need-returns-13
 unfolding number
 returns-13 c = numbered (c .enum-told13 .given .1)
 
+returns-14 : tie.Need-returns-14
+unfolding number
+returns-14 c = numbered (c .enum-told14 .given .1)
+
 pub number-spec : {M : Type 1} → statement M
 number-spec =
     tie.close
@@ -118,6 +125,7 @@ number-spec =
     enum-told-11
     enum-told-12
     enum-told-13
+    enum-told-14
     returns
     returns-2
     returns-3
@@ -130,4 +138,5 @@ number-spec =
     returns-10
     returns-11
     returns-12
-    returns-13)
+    returns-13
+    returns-14)
