@@ -72,9 +72,9 @@ le-of-lifts x y a h k l =
     rw (upTo-is x a h, upTo-is y a k) (le-of-sizes (pos (natAbs x)) (pos (natAbs y)) (omega arith))
 
 module _ (h : ℤ) where
-  pub denser-lifts-more : (p q t : ℤ) → Air p t → Air q t → p ≤ℤ q → liftAt p t h ≤ℤ liftAt q t h
+  pub denser-lifts-no-less : (p q t : ℤ) → Air p t → Air q t → p ≤ℤ q → liftAt p t h ≤ℤ liftAt q t h
   unfolding liftAt
-  denser-lifts-more p q t u v k =
+  denser-lifts-no-less p q t u v k =
       le-of-lifts (liftAt p t h) (liftAt q t h) 4600000000 (liftAt-range p t h u) (liftAt-range q t h v)
       (by (isLifted h) refl)
     where
@@ -92,9 +92,9 @@ module _ (h : ℤ) where
           ))
       by false e = omega arith
 
-  pub warmer-lifts-less : (p s t : ℤ) → Air p s → Air p t → s ≤ℤ t → liftAt p t h ≤ℤ liftAt p s h
+  pub warmer-lifts-no-more : (p s t : ℤ) → Air p s → Air p t → s ≤ℤ t → liftAt p t h ≤ℤ liftAt p s h
   unfolding liftAt
-  warmer-lifts-less p s t u v k =
+  warmer-lifts-no-more p s t u v k =
       le-of-lifts (liftAt p t h) (liftAt p s h) 4600000000 (liftAt-range p t h v) (liftAt-range p s h u)
       (by (isLifted h) refl)
     where

@@ -10,7 +10,6 @@ use lib.Dec.{lit<}
 use lib.Ieee.{Float}
 use lib.IntN.{ℤ, pos, natAbs, _+ℤ_, _*ℤ_}
 use lib.Signed.{_<ℤ_, _≤ℤ_, ltZ}
-use Rattle.rules.specs.declared.Pair.{Pair}
 use Rattle.rules.specs.declared.Reading.{Reading}
 use Rattle.rules.specs.declared.Weather.{Weather}
 use Rattle.rules.specs.declared.Weathered.{Weathered}
@@ -19,7 +18,7 @@ use Rattle.rules.specs.Rounding.{rnd}
 use Rattle.rules.specs.Circle.{pair}
 use Rattle.rules.specs.Floats.{numerator, denominator, tenths}
 use Rattle.rules.specs.Weather.{noWeather, recorded, takenFrom}
-use Rattle.rules.specs.Refraction.{argument, notBelowNought, liftOf, isLifted, liftAt, lift, observed}
+use Rattle.rules.specs.Refraction.{argument, isLifted, liftAt, lift, observed}
 use Rattle.laws.specs.UpTo.{UpTo}
 use Rattle.laws.specs.Nearest.{Nearest}
 use Rattle.laws.specs.Floats as floats
@@ -71,10 +70,10 @@ pub sine-above-nought : (h : ℤ) → isLifted h ≡ true → pos 0 <ℤ pair (a
 sine-above-nought h e = above-nought (pair (argument h) .sine) 20000000 unit (lit< tt) (argument-sine h e)
 
 -- "nought if negative"
-pub lift-where-negative : (p : Pair) → ltZ (rnd (+ 61200000 *ℤ p .cosine) (natAbs (p .sine))) (+ 0) ≡ true
-    → liftOf p ≡ + 0
-unfolding liftOf notBelowNought
-lift-where-negative p e = rw e
+pub lift-where-negative : (w : Weather) (h : ℤ) → FieldsInRange w
+    → ltZ (rnd (+ 61200000 *ℤ pair (argument h) .cosine) (natAbs (pair (argument h) .sine))) (+ 0) ≡ true
+    → lift w h ≡ + 0
+lift-where-negative w h f e = lifts.lift-where-negative w h f e
 
 -- "until both have come the lift is nought"
 pub lift-without-pressure : (w : Weather) (h : ℤ) → w .«has_pressure» ≡ false → lift w h ≡ + 0
@@ -92,11 +91,11 @@ pub lift-in-range : (w : Weather) (h : ℤ) → FieldsInRange w → UpTo (lift w
 lift-in-range w h f = lifts.lift-range w h f
 
 -- denser air lifts no less, warmer air no more, by the tenths of pressure and temperature
-pub denser-lifts-more : (h p q t : ℤ) → lifts.Air p t → lifts.Air q t → p ≤ℤ q → liftAt p t h ≤ℤ liftAt q t h
-denser-lifts-more h p q t u v k = air.denser-lifts-more h p q t u v k
+pub denser-lifts-no-less : (h p q t : ℤ) → lifts.Air p t → lifts.Air q t → p ≤ℤ q → liftAt p t h ≤ℤ liftAt q t h
+denser-lifts-no-less h p q t u v k = air.denser-lifts-no-less h p q t u v k
 
-pub warmer-lifts-less : (h p s t : ℤ) → lifts.Air p s → lifts.Air p t → s ≤ℤ t → liftAt p t h ≤ℤ liftAt p s h
-warmer-lifts-less h p s t u v k = air.warmer-lifts-less h p s t u v k
+pub warmer-lifts-no-more : (h p s t : ℤ) → lifts.Air p s → lifts.Air p t → s ≤ℤ t → liftAt p t h ≤ℤ liftAt p s h
+warmer-lifts-no-more h p s t u v k = air.warmer-lifts-no-more h p s t u v k
 
 -- ---- the observed altitude
 

@@ -24,15 +24,9 @@ use Rattle.rules.specs.Refraction.{observed, observedIn, observedAltitude, obse
 use Rattle.laws.specs.RefusalNumbers.{number-pos}
 use Rattle.answers.specs.declared.observed.TurbelicusObserved.{TurbelicusObserved}
 use Rattle.answers.specs.Answers.{altitudeOut, observedOut}
-use Rattle.promises.specs.ByContract as answers
-use Rattle.promises.specs.ByContractForC as answers-for-c
 use Rattle.promises.specs.Demand1.Weather.{place-untouched}
 use Rattle.promises.specs.Demand2 as demand2
 use Rattle.promises.specs.Refraction as rules
-use Rattle.weather.proofs.kept.take_from as take-from
-use Rattle.refraction.proofs.observed.observed_altitude as observed-altitude
-use Rattle.module.proofs.probe.turbelicus_observed_altitude as turbelicus-observed-altitude
-use Rattle.module.proofs.observed.turbelicus_observed_place as turbelicus-observed-place
 
 -- ---- what is answered is observed by a record in range
 

@@ -27,7 +27,6 @@ use Rattle.promises.specs.Contracts.{Tells, so-told, together}
 use Rattle.promises.specs.Calls.{Call, told}
 use Rattle.promises.specs.ByContract as answers
 use Rattle.promises.specs.ByContractForC as answers-for-c
-use Rattle.promises.specs.Demand2 as demand2
 use Rattle.promises.specs.Refraction as rules
 use Rattle.weather.proofs.kept.take_from as take-from
 use Rattle.refraction.proofs.observed.observed_altitude as observed-altitude

@@ -30,6 +30,6 @@ pub fn observed_altitude(h: i64, w: Weather) -> Angle
     let given = recorded(w);
     match given {
         Weathered::Now(v) => Angle::Of(lifted(h, v)),
-        Weathered::Refused(v) => Angle::Refused(Refusal::Reading),
+        Weathered::Refused(_) => Angle::Refused(Refusal::Reading),
     }
 }

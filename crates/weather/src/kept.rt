@@ -72,7 +72,7 @@ pub fn take_from(w: Weather, r: Reading) -> Weathered
     let given = recorded(w);
     match given {
         Weathered::Now(v) => stay(w, take(v, r)),
-        Weathered::Refused(v) => Weathered::Refused(w),
+        Weathered::Refused(_) => Weathered::Refused(w),
     }
 }
 
@@ -82,6 +82,6 @@ fn stay(w: Weather, a: Weathered) -> Weathered
 {
     match a {
         Weathered::Now(v) => Weathered::Now(v),
-        Weathered::Refused(v) => Weathered::Refused(w),
+        Weathered::Refused(_) => Weathered::Refused(w),
     }
 }

@@ -2,6 +2,9 @@
 
 use second::units::{CIRCLE, HALF_CIRCLE, QUARTER};
 
+/// J2000.0, a site and a star without motion.
+pub const GOOD: [i64; 14] = [2000, 1, 1, 12, 0, 0, 0, 0, 0, 0, 0, 0, 0, 0];
+
 /// The least and the most of each part that is accepted.
 pub const RANGES: [(i64, i64); 14] = {
     let (quarter, half_circle, last) = (QUARTER as i64, HALF_CIRCLE as i64, CIRCLE as i64 - 1);

@@ -7,7 +7,7 @@ use bridge::compare::compare;
 use bridge::face::{OBSERVED_ALTITUDE, OBSERVED_PLACE, PLACE};
 use bridge::floats::{word, PRESSURES};
 use bridge::function::Call;
-use bridge::ranges::RANGES;
+use bridge::ranges::{GOOD, RANGES};
 use bridge::records::{accepted_record, asked_in, at, come, record, Record, HIGHEST, LOWEST, PAST_QUARTER};
 use second::dates::{instants, Date, Moment};
 use second::place::local_sidereal;
@@ -16,9 +16,6 @@ use second::units::{Whole, CIRCLE, HALF_CIRCLE};
 
 const RANDOM: usize = 120_000;
 const RANDOM_AT_AN_EDGE: usize = 8_000;
-
-/// J2000.0, a site and a star without motion.
-const GOOD: [i64; 14] = [2000, 1, 1, 12, 0, 0, 0, 0, 0, 0, 0, 0, 0, 0];
 
 #[test]
 fn random_places() {

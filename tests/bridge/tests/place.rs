@@ -5,14 +5,11 @@ use bridge::beside::place;
 use bridge::chance::Chance;
 use bridge::compare::compare;
 use bridge::face::PLACE;
-use bridge::ranges::RANGES;
+use bridge::ranges::{GOOD, RANGES};
 use bridge::steps::about_every_step;
 
 const RANDOM: usize = 205_000;
 const RANDOM_ABOUT_A_STEP: usize = 400;
-
-/// J2000.0, a site and a star without motion.
-const GOOD: [i64; 14] = [2000, 1, 1, 12, 0, 0, 0, 0, 0, 0, 0, 0, 0, 0];
 
 #[test]
 fn random_places() {

@@ -1,7 +1,5 @@
 -- `refraction::lift` meets its contract: nought by each of the two tests, else by the tenths of the fields.
-use mathlib.Core.Path.{_≡_, sym, _∙_}
-use mathlib.Core.Bool.{Bool, true, false}
-use borrow.Author.Needs.{needs}
+use mathlib.Core.Path.{_≡_, _∙_}
 use mir.Syntax.{w64}
 use mir.Val.{toZ, ofZ}
 use mir.Facts.{toZ-ofZ}

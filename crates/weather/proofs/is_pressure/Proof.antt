@@ -1,9 +1,8 @@
 -- `weather::is_pressure` meets its contract: the two comparisons are the rule's, by the laws of exact values.
 use mathlib.Core.Path.{sym, ap, _∙_}
-use mathlib.Core.Bool.{Bool, _&&_}
+use mathlib.Core.Bool.{Bool, false, _&&_}
 use lib.IntN.{pos}
 use lib.Ieee.{Float, fin, le, ofBits}
-use mathlib.Core.Bool.{false}
 use Rattle.laws.specs.Weather.{pressure-by-tests}
 use Rattle.weather.proofs.is_pressure.Statement.{statement}
 use Rattle.weather.proofs.is_pressure.Tie as tie

@@ -1,9 +1,8 @@
 -- `weather::is_temperature` meets its contract: the two comparisons are the rule's, by the laws of exact values.
 use mathlib.Core.Path.{sym, ap, _∙_}
-use mathlib.Core.Bool.{Bool, _&&_}
+use mathlib.Core.Bool.{Bool, false, _&&_}
 use lib.IntN.{pos}
 use lib.Ieee.{Float, fin, le, ofBits, neg}
-use mathlib.Core.Bool.{false}
 use Rattle.laws.specs.Weather.{temperature-by-tests}
 use Rattle.weather.proofs.is_temperature.Statement.{statement}
 use Rattle.weather.proofs.is_temperature.Tie as tie

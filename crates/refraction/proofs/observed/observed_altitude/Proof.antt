@@ -23,9 +23,8 @@ returns c =
 returns-2 : tie.Need-returns-2
 unfolding observedAltitude observedIn
 returns-2 c =
-    let k = c .before in
-    let s = k .before .before .before in
-    sym (ap (λ a. observedIn a (s .args .h)) (sym (k .before .before .recorded .ensures) ∙ k .given2 .given .1))
+    let k = c .before .before in
+    sym (ap (λ a. observedIn a (k .before .args .h)) (sym (k .recorded .ensures) ∙ c .enum-told .given .1))
 
 recorded-requires : tie.Need-recorded-requires
 recorded-requires c κs = search needs
@@ -39,8 +38,8 @@ lifted-requires c κs =
     recorded-keeps (k .before .before .before .args .w) (k .given .given .0 .0)
     (sym (k .before .before .recorded .ensures) ∙ k .given .given .1) .fields
 
-enum-known-given-2 : tie.Need-enum-known-given-2
-enum-known-given-2 c = search needs
+enum-told : tie.Need-enum-told
+enum-told c = search needs
 
 pub observed-altitude-spec : {M : Type 1} → statement M
 observed-altitude-spec =
@@ -49,6 +48,6 @@ observed-altitude-spec =
     recorded-requires
     enum-known-given
     lifted-requires
-    enum-known-given-2
+    enum-told
     returns
     returns-2)

@@ -11,13 +11,13 @@ returns c = sym (ap (stays (c .before .before .before .args .w)) (c .before .a .
 
 returns-2 : tie.Need-returns-2
 unfolding stays
-returns-2 c = sym (ap (stays (c .before .before .before .args .w)) (c .before .a2 .given .1))
+returns-2 c = sym (ap (stays (c .before .before .args .w)) (c .enum-told .given .1))
 
 enum-known-a : tie.Need-enum-known-a
 enum-known-a c = search needs
 
-enum-known-a-2 : tie.Need-enum-known-a-2
-enum-known-a-2 c = search needs
+enum-told : tie.Need-enum-told
+enum-told c = search needs
 
 pub stay-spec : {M : Type 1} → statement M
-stay-spec = tie.close (tie.spec enum-known-a enum-known-a-2 returns returns-2)
+stay-spec = tie.close (tie.spec enum-known-a enum-told returns returns-2)

@@ -18,10 +18,10 @@ returns c =
 returns-2 : tie.Need-returns-2
 unfolding takenFrom takenIn
 returns-2 c =
-    let k = c .before in
-    let w = k .before .before .before .args .w in
-    let r = k .before .before .before .args .r in
-    sym (ap (λ a. takenIn w a r) (sym (k .before .before .recorded .ensures) ∙ k .given2 .given .1))
+    let k = c .before .before in
+    let w = k .before .args .w in
+    let r = k .before .args .r in
+    sym (ap (λ a. takenIn w a r) (sym (k .recorded .ensures) ∙ c .enum-told .given .1))
 
 recorded-requires : tie.Need-recorded-requires
 recorded-requires c κs = search needs
@@ -35,8 +35,8 @@ take-requires c κs = search needs
 stay-requires : tie.Need-stay-requires
 stay-requires c κs = search needs
 
-enum-known-given-2 : tie.Need-enum-known-given-2
-enum-known-given-2 c = search needs
+enum-told : tie.Need-enum-told
+enum-told c = search needs
 
 pub take-from-spec : {M : Type 1} → statement M
 take-from-spec =
@@ -46,6 +46,6 @@ take-from-spec =
     enum-known-given
     take-requires
     stay-requires
-    enum-known-given-2
+    enum-told
     returns
     returns-2)
