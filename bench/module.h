@@ -12,6 +12,7 @@
 #else
 struct turbelicus_placed {
     int64_t refused, ra, declination, azimuth, altitude;
+    int32_t has_ra, has_azimuth;
 };
 
 struct turbelicus_placed *turbelicus_place(struct turbelicus_placed *placed, int32_t year, int32_t month, int32_t day,
@@ -20,7 +21,7 @@ struct turbelicus_placed *turbelicus_place(struct turbelicus_placed *placed, int
                                            int64_t declination, int32_t ra_motion, int32_t declination_motion);
 #endif
 
-/* An entry of a list: the star, its mark (0 or 5), and its place. */
+/* An entry of a list: the star, its mark (0, 1 or 5), and its angles. */
 struct entry {
     struct star star;
     uint8_t mark;

@@ -4,7 +4,8 @@
  *
  * It reads the list record by record and asks the module for one place at a time. A line for each star: its number in the
  * list, azimuth from north through east and observed altitude, both in arcseconds; or `below` where the mount does not reach
- * down to where the star is observed. What is refused ends it with a word on standard error, before the first line.
+ * down to where the star is observed. A star at the zenith has no azimuth: `stays` stands in that column, and the
+ * azimuth's motor stays where it is. What is refused ends it with a word on standard error, before the first line.
  *
  * WEATHER has what the probe has handed over, a line for each reading: `P` and hPa, `T` and degrees, or an empty line for
  * nothing. A reading that is refused is told on standard error, and the weather stays as it was. Without a pressure and a
@@ -121,7 +122,10 @@ static void print_target(size_t number, const struct turbelicus_observed *observ
         printf(" below\n");
         return;
     }
-    print_arcseconds(observed->azimuth);
+    if (observed->has_azimuth)
+        print_arcseconds(observed->azimuth);
+    else
+        printf(" stays");
     print_arcseconds(observed->observed_altitude);
     printf("\n");
 }

@@ -28,6 +28,11 @@
  *   14  weather: a reading not accepted, pressure not 500 to 1,100 hPa or temperature not -50 to 50 degrees, or no such kind
  *       of reading; after all others
  *
+ * No angle. A star that stands exactly at a pole has no right ascension, and one at the zenith or the nadir has no
+ * azimuth; (0, 0) has no angle to read. That is no refusal: the flag of the angle, `has_ra`, `has_azimuth` or
+ * `has_angle`, is 0 and the angle is 0. Where there is an angle its flag is 1, also if the angle is 0. Where there is
+ * none a motor has nowhere to go: it stays.
+ *
  * What C must keep. A pointer goes with its own length: so many elements are there to be read, or written where it is not
  * const. It is null only with length 0. The room that is written overlaps nothing else that the same call is lent. */
 #ifndef TURBELICUS_H
@@ -42,6 +47,7 @@ extern "C" {
 
 struct turbelicus_placed {
     int64_t refused, ra, declination, azimuth, altitude;
+    int32_t has_ra, has_azimuth;
 };
 
 /* The place of a star at a moment and a site.
@@ -51,6 +57,9 @@ struct turbelicus_placed {
  * without a cosine.
  * Returned: apparent right ascension, 0 to 1,295,999,999,999, and declination, within 324,000,000,000; azimuth from north
  * through east, and altitude, in the same ranges. Without refraction, parallax and polar motion.
+ * has_ra is 1; or 0, with ra 0, where there is no right ascension: that is exactly where declination is 324,000,000,000
+ * or -324,000,000,000. has_azimuth is 1; or 0, with azimuth 0, where there is no azimuth: exactly where altitude is one
+ * of those two. Declination and altitude always have an angle.
  * Refused: 1 to 6. */
 struct turbelicus_placed turbelicus_place(int32_t year, int32_t month, int32_t day, int32_t hour, int32_t minute,
                                           int32_t second, int32_t ms, int32_t ut1_minus_utc, int64_t latitude,
@@ -99,13 +108,14 @@ struct turbelicus_altitude turbelicus_observed_altitude(int64_t altitude, float 
 
 struct turbelicus_observed {
     int64_t refused, ra, declination, azimuth, altitude, observed_altitude;
+    int32_t has_ra, has_azimuth;
 };
 
 /* The place of a star as turbelicus_place gives it, and its observed altitude.
  *
  * Given: what turbelicus_place is given, then the weather record.
- * Returned: the four angles of turbelicus_place, the altitude the true one; and that altitude with its lift by the air, as
- * turbelicus_observed_altitude gives it, within 324,000,000,000.
+ * Returned: the four angles and the two flags of turbelicus_place, the altitude the true one; and that altitude with
+ * its lift by the air, as turbelicus_observed_altitude gives it, within 324,000,000,000.
  * Refused: 1 to 6, then 14. */
 struct turbelicus_observed turbelicus_observed_place(int32_t year, int32_t month, int32_t day, int32_t hour,
                                                      int32_t minute, int32_t second, int32_t ms, int32_t ut1_minus_utc,
@@ -125,12 +135,16 @@ struct turbelicus_turned {
  * Refused: 7, 8. */
 struct turbelicus_turned turbelicus_turn(int64_t x, int64_t y, int64_t z, int64_t axis, int64_t angle);
 
+struct turbelicus_read {
+    int64_t angle, has_angle;
+};
+
 /* The angle of (h, v), from h towards v.
  *
  * Given: any two numbers.
- * Returned: 0 to 1,295,999,999,999; 0 for (0, 0).
+ * Returned: the angle, 0 to 1,295,999,999,999, and has_angle 1; or two noughts for (0, 0), which has none.
  * Refused: never. */
-int64_t turbelicus_reading(int32_t h, int32_t v);
+struct turbelicus_read turbelicus_reading(int32_t h, int32_t v);
 
 /* The list file: the bytes of its head and of a record, and how many records it has at most. */
 #define TURBELICUS_HEAD_BYTES 7

@@ -47,7 +47,7 @@ static float float_of(int64_t word) {
     FUNCTION(tests_on_circle, 1, struct tests_tried, given[0])                                                         \
     FUNCTION(tests_pair, 1, struct tests_pair, given[0])                                                               \
     FUNCTION(turbelicus_turn, 5, struct turbelicus_turned, given[0], given[1], given[2], given[3], given[4])           \
-    FUNCTION(turbelicus_reading, 2, int64_t, narrow(given[0]), narrow(given[1]))                                       \
+    FUNCTION(turbelicus_reading, 2, struct turbelicus_read, narrow(given[0]), narrow(given[1]))                        \
     FUNCTION(tests_day_of, 3, struct tests_day, narrow(given[0]), narrow(given[1]), narrow(given[2]))                  \
     FUNCTION(tests_date_of, 1, struct tests_date, given[0])                                                            \
     FUNCTION(tests_instants, 8, struct tests_instants, narrow(given[0]), narrow(given[1]), narrow(given[2]),           \

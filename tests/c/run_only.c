@@ -34,8 +34,9 @@ static struct turbelicus_placed place(int32_t year, int32_t month, int32_t of_mo
 }
 
 static void print_place(struct turbelicus_placed a) {
-    printf("refused %lld, ra %lld, declination %lld, azimuth %lld, altitude %lld\n", (long long)a.refused,
-           (long long)a.ra, (long long)a.declination, (long long)a.azimuth, (long long)a.altitude);
+    printf("refused %lld, ra %lld, declination %lld, azimuth %lld, altitude %lld, has_ra %d, has_azimuth %d\n",
+           (long long)a.refused, (long long)a.ra, (long long)a.declination, (long long)a.azimuth,
+           (long long)a.altitude, a.has_ra, a.has_azimuth);
 }
 
 static void place_on(int32_t year, int32_t month, int32_t of_month) {

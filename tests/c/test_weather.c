@@ -46,7 +46,8 @@ static struct turbelicus_observed over(int32_t year, int64_t latitude, struct tu
 
 static int is_refused(struct turbelicus_observed observed, int64_t refused) {
     return observed.refused == refused && observed.ra == 0 && observed.declination == 0 && observed.azimuth == 0 &&
-           observed.altitude == 0 && observed.observed_altitude == 0;
+           observed.altitude == 0 && observed.observed_altitude == 0 && observed.has_ra == 0 &&
+           observed.has_azimuth == 0;
 }
 
 static void readings(void) {
@@ -124,6 +125,7 @@ static void places(void) {
     CHECK(observed.observed_altitude > observed.altitude);
     CHECK(is_altitude(at(record, observed.altitude), 0, observed.observed_altitude));
     CHECK(over(2000, latitude, none).observed_altitude == placed.altitude);
+    CHECK(observed.has_ra == 1 && observed.has_azimuth == 1);
 
     /* 14 after all others */
     CHECK(is_refused(over(2000, latitude, bad), 14));
@@ -132,10 +134,20 @@ static void places(void) {
     CHECK(is_refused(over(2100, latitude, record), 1));
 }
 
+/* Over the pole, at the pole of date: the air lifts nothing there, and the flags are those of the place. */
+static void zenith(void) {
+    struct turbelicus_observed observed = turbelicus_observed_place(
+        2026, 3, 20, 20, 0, 0, 0, 0, QUARTER, 51915000000, 10294758035, 323471390485, 0, 0, 1013.25f, -10.25f, 1, 1);
+    CHECK(observed.refused == 0 && observed.declination == QUARTER && observed.altitude == QUARTER);
+    CHECK(observed.observed_altitude == QUARTER);
+    CHECK(observed.ra == 0 && observed.azimuth == 0 && observed.has_ra == 0 && observed.has_azimuth == 0);
+}
+
 int main(void) {
     readings();
     altitudes();
     records();
     places();
+    zenith();
     return verdict("weather");
 }

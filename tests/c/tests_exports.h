@@ -77,7 +77,8 @@ struct tests_star {
     int32_t ra_motion, declination_motion;
 };
 
-struct tests_place {
+/* Nought in an angle that the entry has not. */
+struct tests_angles {
     int64_t ra, declination, azimuth, altitude;
 };
 
@@ -87,10 +88,10 @@ struct tests_place {
 struct tests_entry {
     struct tests_star star;
     uint8_t mark;
-    struct tests_place place;
+    struct tests_angles angles;
 };
 
-/* count is of the records read, of the bytes written, or of the entries marked 0. */
+/* count is of the records read, of the bytes written, or of the entries marked 0 or 1. */
 struct turbelicus_counted tests_list_read(const uint8_t *file, size_t file_length, struct tests_entry *entries,
                                           size_t entries_length);
 struct turbelicus_counted tests_list_write(const struct tests_entry *entries, size_t entries_length, uint8_t *room,

@@ -22,6 +22,14 @@ bytes() { # bytes TEXT [RECORDS]: a file of a head, and records of 24 noughts
     [ $# -lt 2 ] || head -c $((24 * $2)) /dev/zero
 }
 
+star() { # star RA DECLINATION: a record without motions
+    local number bit
+    for number in "$1" "$2"; do
+        for bit in 0 8 16 24 32 40 48 56; do printf "\\x$(printf %02x $((number >> bit & 255)))"; done
+    done
+    head -c 8 /dev/zero
+}
+
 while IFS= read -r text; do
     printf '%s\n' "$text" | answered "$text" "$bright"
     printf '%s\n' "$text" | answered "$text, for people" "$bright" sexagesimal
@@ -97,6 +105,18 @@ echo "$line" | answered 'a star that is refused, 0 hPa' "$work/file" 0 0
 bytes 'SLT\1\0\0\0' >"$work/file"; echo "$line" | answered 'no entry, 0 hPa' "$work/file" 0 0
 echo "$line" | answered 'no entry, 1000 hPa' "$work/file" 1000 0
 bytes 'SLT\1\0\100\0' 64 >"$work/file"; echo "$line" | answered '64 entries, 1000 hPa' "$work/file" 1000 0
+
+# stars that stand exactly at the zenith of the first latitude and at both poles of date, and an ordinary one: a dash
+# for an angle that there is not. Over the poles those two have neither.
+{ bytes 'SLT\1\0\4\0'; star 476318619300 180659831600; star 10294758035 323471390485; star 643610219813 -323471986802
+  star 0 0; } >"$work/file"
+for latitude in 180315000000 180316000000 324000000000 -324000000000; do
+    text="2026-03-20 20:00:00.000 0 $latitude 51915000000"
+    echo "$text" | answered "without an angle, $text" "$work/file"
+    echo "$text" | answered "without an angle, $text, for people" "$work/file" sexagesimal
+    echo "$text" | answered "without an angle, $text, 1013.2 hPa" "$work/file" 1013.2 -10.5
+    echo "$text" | answered "without an angle, $text, 1013.2 hPa, for people" "$work/file" sexagesimal 1013.2 -10.5
+done
 rm "$work/file"
 
 # the shell

@@ -12,6 +12,7 @@ use Rattle.answers.specs.declared.observed.TurbelicusAltitude.{Turbelicu
 use Rattle.answers.specs.declared.observed.TurbelicusObserved.{TurbelicusObserved}
 use Rattle.answers.specs.declared.places.TurbelicusPlaced.{TurbelicusPlaced}
 use Rattle.answers.specs.declared.turns.TurbelicusTurned.{TurbelicusTurned}
+use Rattle.answers.specs.declared.turns.TurbelicusRead.{TurbelicusRead}
 use Rattle.answers.specs.declared.lists.TurbelicusCounted.{TurbelicusCounted}
 use Rattle.answers.specs.declared.lists.TurbelicusStarred.{TurbelicusStarred}
 use Rattle.answers.specs.declared.lists.TurbelicusWritten.{TurbelicusWritten}
@@ -19,10 +20,12 @@ use Rattle.answers.specs.declared.lists.TurbelicusWritten.{TurbelicusWri
 unfoldable pub placedOut : Answer → TurbelicusPlaced
 placedOut a = record {
   refused = pos (a .number);
-  ra = getD (a .values) 0 (pos 0);
-  declination = getD (a .values) 1 (pos 0);
-  azimuth = getD (a .values) 2 (pos 0);
-  altitude = getD (a .values) 3 (pos 0);
+  «has_ra» = getD (a .values) 0 (pos 0);
+  ra = getD (a .values) 1 (pos 0);
+  declination = getD (a .values) 2 (pos 0);
+  «has_azimuth» = getD (a .values) 3 (pos 0);
+  azimuth = getD (a .values) 4 (pos 0);
+  altitude = getD (a .values) 5 (pos 0);
 }
 
 unfoldable pub turnedOut : Answer → TurbelicusTurned
@@ -32,6 +35,10 @@ turnedOut a = record {
   y = getD (a .values) 1 (pos 0);
   z = getD (a .values) 2 (pos 0);
 }
+
+-- a reading is never refused
+unfoldable pub readOut : Answer → TurbelicusRead
+readOut a = record { «has_angle» = getD (a .values) 0 (pos 0); angle = getD (a .values) 1 (pos 0) }
 
 unfoldable pub starredOut : Answer → TurbelicusStarred
 starredOut a = record {
@@ -55,11 +62,13 @@ altitudeOut a = record { refused = pos (a .number); altitude = getD (a .values) 
 unfoldable pub observedOut : Answer → TurbelicusObserved
 observedOut a = record {
   refused = pos (a .number);
-  ra = getD (a .values) 0 (pos 0);
-  declination = getD (a .values) 1 (pos 0);
-  azimuth = getD (a .values) 2 (pos 0);
-  altitude = getD (a .values) 3 (pos 0);
-  «observed_altitude» = getD (a .values) 4 (pos 0);
+  «has_ra» = getD (a .values) 0 (pos 0);
+  ra = getD (a .values) 1 (pos 0);
+  declination = getD (a .values) 2 (pos 0);
+  «has_azimuth» = getD (a .values) 3 (pos 0);
+  azimuth = getD (a .values) 4 (pos 0);
+  altitude = getD (a .values) 5 (pos 0);
+  «observed_altitude» = getD (a .values) 6 (pos 0);
 }
 
 -- a place and the observed altitude of it, as C gets them: the place's refusal first, then the other
@@ -71,6 +80,8 @@ noneObserved number = record {
   azimuth = pos 0;
   altitude = pos 0;
   «observed_altitude» = pos 0;
+  «has_ra» = pos 0;
+  «has_azimuth» = pos 0;
 }
 
 unfoldable pub besideOut : TurbelicusPlaced → TurbelicusAltitude → TurbelicusObserved
@@ -82,6 +93,8 @@ besideOut p seen =
       azimuth = p .azimuth;
       altitude = p .altitude;
       «observed_altitude» = seen .altitude;
+      «has_ra» = p .«has_ra»;
+      «has_azimuth» = p .«has_azimuth»;
     } in
     cond (same (p .refused) (pos 0)) (cond (same (seen .refused) (pos 0)) both (noneObserved (seen .refused)))
     (noneObserved (p .refused))

@@ -11,7 +11,7 @@ use Rattle.rules.specs.declared.Angle.{Angle}
 use Rattle.rules.specs.declared.Placed.{Placed}
 use Rattle.rules.specs.Units.{same}
 use Rattle.rules.specs.Refusals.{number, given, refused}
-use Rattle.rules.specs.Answers.{angleAnswer, placedAnswer, observedAnswer}
+use Rattle.rules.specs.Answers.{angleAnswer, placeNumbers, placedAnswer, observedAnswer}
 use Rattle.rules.specs.Refraction.{observedAltitude, observedAt, observedBeside}
 use Rattle.laws.specs.RefusalNumbers.{number-pos}
 use Rattle.laws.specs.Units.{same-of, not-same}
@@ -23,8 +23,8 @@ not-nought r = not-same (pos (number r)) (pos 0) (λ e. omega (arith, number-pos
 of-place : (p : Place) (a : Angle)
     → besideOut (placedOut (placedAnswer (Placed.At p))) (altitudeOut (angleAnswer a))
     ≡ observedOut (observedAnswer (observedAt p a))
-unfolding besideOut noneObserved placedOut altitudeOut observedOut placedAnswer angleAnswer observedAnswer observedAt
-    given refused
+unfolding besideOut noneObserved placedOut altitudeOut observedOut placeNumbers placedAnswer angleAnswer observedAnswer
+    observedAt given refused
 of-place p (Angle.Of h) = rw (same-of (pos 0) (pos 0) refl)
 of-place p (Angle.Refused r) = rw (same-of (pos 0) (pos 0) refl, not-nought r)
 
@@ -32,6 +32,7 @@ pub beside-is : (q : Placed) (w : Weather)
     → besideOut (placedOut (placedAnswer q))
     (altitudeOut (angleAnswer (observedAltitude w (placedOut (placedAnswer q) .altitude))))
     ≡ observedOut (observedAnswer (observedBeside q w))
-unfolding besideOut noneObserved placedOut observedOut placedAnswer observedAnswer observedBeside given refused
+unfolding besideOut noneObserved placedOut observedOut placeNumbers placedAnswer observedAnswer observedBeside given
+    refused
 beside-is (Placed.At p) w = of-place p (observedAltitude w (p .altitude))
 beside-is (Placed.Refused r) w = rw (not-nought r)

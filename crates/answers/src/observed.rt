@@ -13,7 +13,7 @@ pub struct TurbelicusAltitude {
     pub altitude: i64,
 }
 
-// The refusal's number and noughts, or 0, the place and the observed altitude in µas.
+// The refusal's number and noughts, or 0, the place with its flags, and the observed altitude in µas.
 #[repr(C)]
 pub struct TurbelicusObserved {
     pub refused: i64,
@@ -22,6 +22,8 @@ pub struct TurbelicusObserved {
     pub azimuth: i64,
     pub altitude: i64,
     pub observed_altitude: i64,
+    pub has_ra: i32,
+    pub has_azimuth: i32,
 }
 
 pub fn altitude_out(a: Angle) -> TurbelicusAltitude
@@ -50,6 +52,8 @@ fn none_observed(refused: i64) -> TurbelicusObserved
         azimuth: 0,
         altitude: 0,
         observed_altitude: 0,
+        has_ra: 0,
+        has_azimuth: 0,
     }
 }
 
@@ -66,6 +70,8 @@ pub fn beside_out(p: TurbelicusPlaced, seen: TurbelicusAltitude) -> TurbelicusOb
                 azimuth: p.azimuth,
                 altitude: p.altitude,
                 observed_altitude: seen.altitude,
+                has_ra: p.has_ra,
+                has_azimuth: p.has_azimuth,
             };
         }
         return none_observed(seen.refused);

@@ -1,10 +1,11 @@
 // The weather record, as C hands it over and gets it back: two floats and two flags.
 
+use crate::flags::flag;
 use rules::Refusal;
 use rules::Weather;
 use rules::Weathered;
 ghost use mathlib.Core.Path.{_≡_};
-ghost use mathlib.Core.Bool.{not, cond};
+ghost use mathlib.Core.Bool.{not};
 ghost use Rattle.rules.specs.Units.{same, +_};
 ghost use Rattle.answers.specs.Given.{weatherOf};
 ghost use Rattle.answers.specs.Answers.{recordOut, weatheredOut};
@@ -44,12 +45,6 @@ pub fn weather_of(
         has_pressure: is_set(has_pressure),
         has_temperature: is_set(has_temperature),
     }
-}
-
-fn flag(b: bool) -> i32
-    ensures { λ r. ⌜ r ≡ cond b (+ 1) (+ 0) ⌝ }
-{
-    if b { 1 } else { 0 }
 }
 
 fn record_out(refused: i64, w: Weather) -> TurbelicusWeathered

@@ -15,7 +15,7 @@ abbrev pub blank : Entry
 blank = record {
   star = record { ra = pos 0; declination = pos 0; «ra_motion» = pos 0; «declination_motion» = pos 0 };
   mark = 0;
-  place = noughts;
+  angles = noughts;
 }
 
 unfoldable pub blanks : List Entry

@@ -3,10 +3,10 @@
 
 use entries_read::read_list;
 use night_list::night_list;
+use rules::Angles;
 use rules::Entry;
 use rules::Listed;
 use rules::Moment;
-use rules::Place;
 use rules::Site;
 use rules::Star;
 use units::MOST_RECORDS;
@@ -33,7 +33,7 @@ fn blank() -> Entry
             declination_motion: 0,
         },
         mark: 0,
-        place: Place {
+        angles: Angles {
             ra: 0,
             declination: 0,
             azimuth: 0,
@@ -60,7 +60,7 @@ pub fn read(file: &[u8]) -> Listing
 //
 // Given: moment and site, any; count, no more than a list may have; listing, of which the entries
 // alone are looked at.
-// Returned: how many entries are marked 0, and the entries, of which the first `count` are worked;
+// Returned: how many entries are filled, and the entries, of which the first `count` are worked;
 // or refusal 1 to 4 or 6, and the entries as they were.
 // Rule: specs/Listing.antt.
 pub fn work(moment: Moment, site: Site, count: usize, listing: Listing) -> Listing

@@ -2,9 +2,9 @@
 
 use list_file::list_count;
 use list_file::star_at;
+use rules::Angles;
 use rules::Entry;
 use rules::Listed;
-use rules::Place;
 use rules::Refusal;
 use units::HEAD_BYTES;
 use units::RECORD_BYTES;
@@ -61,7 +61,7 @@ pub fn entry_at(file: &[u8], i: usize) -> Entry
     Entry {
         star: star_at(file, HEAD_BYTES + RECORD_BYTES * i),
         mark: 0,
-        place: Place {
+        angles: Angles {
             ra: 0,
             declination: 0,
             azimuth: 0,

@@ -8,51 +8,60 @@ use borrow.Author.Tests.{lt-ltb, le-ltb}
 use lib.IntN.{ℤ, pos, negsuc, natAbs, _-ℤ_, -ℤ-+ℤ-cancel}
 use lib.Signed.{ltZ}
 use Rattle.integers.specs.Difference.{pos-sub, sub-is}
-use Rattle.integers.specs.Size.{abs-le}
+use Rattle.integers.specs.Size.{abs-is, parts-apart}
 use Rattle.rules.specs.Units.{unit, circle, half, quarter}
 use Rattle.rules.specs.declared.Direction.{Direction}
 use Rattle.rules.specs.Length.{root, square, squares}
 use Rattle.rules.specs.Turning.{Accepted}
-use Rattle.rules.specs.Circle.{pair}
-use Rattle.rules.specs.Reading.{angleToQuarter, notCircle, reading}
+use Rattle.rules.specs.Circle.{squareParts, pair}
+use Rattle.rules.specs.Rounding.{rnd, rndSize}
+use Rattle.rules.specs.Reading.{arcStage, arcStages, arc, inMicroarcseconds, flat, tangent, angleToHalf}
+use Rattle.rules.specs.Reading.{angleToQuarter, bySigns, notCircle, angleOf}
 use Rattle.rules.specs.Heights.{asHeight, height}
 use Rattle.laws.specs.Root.{root-root, root-lt}
 use Rattle.laws.specs.Directions.{accepted-parts}
-use Rattle.laws.specs.UpTo.{UpTo}
+use Rattle.laws.specs.UpTo.{UpTo, upTo-le}
 use Rattle.laws.specs.Angles.{pair-circle}
-use Rattle.laws.specs.ReadingRange.{reading-is, angleToQuarter-range, signs-plus-plus, signs-plus-minus}
+use Rattle.laws.specs.ReadingRange.{angleToQuarter-range, signs-plus-plus, signs-plus-minus}
 
--- ---- within a quarter of nought
+-- ---- as large as the angle of the sizes, so within a quarter of nought
 
-first-quarter : (θ : ℤ) → UpTo θ quarter → natAbs (asHeight (notCircle θ)) ≤ quarter
+first-quarter : (θ : ℤ) → UpTo θ quarter → natAbs (asHeight (notCircle θ)) ≡ natAbs θ
 unfolding asHeight notCircle
 first-quarter (negsuc n) i = absurd (omega (arith, i .low))
-first-quarter (pos n) i =
-    rw (lt-ltb n circle (omega (arith, i .high)), le-ltb half n (omega (arith, i .high))) (i .high)
+first-quarter (pos n) i = rw (lt-ltb n circle (omega (arith, i .high)), le-ltb half n (omega (arith, i .high)))
 
-last-quarter : (n : ℕ) → n ≤ quarter → natAbs (asHeight (notCircle (pos circle -ℤ pos n))) ≤ quarter
+last-quarter : (n : ℕ) → n ≤ quarter → natAbs (asHeight (notCircle (pos circle -ℤ pos n))) ≡ n
 unfolding asHeight notCircle
-last-quarter zero i = omega arith
+last-quarter zero i = refl
 last-quarter (suc n) i =
     let m = circle - suc n in
-    rw (pos-sub circle (suc n) (omega arith), lt-ltb m circle (omega arith), lt-ltb half m (omega arith))
-    (abs-le (pos m -ℤ pos circle) quarter
-    (omega (arith, sub-is (pos m) (pos circle))) (omega (arith, sub-is (pos m) (pos circle))))
+    let d = pos m -ℤ pos circle in
+    let size : natAbs d ≡ suc n = omega (arith, sub-is (pos m) (pos circle), abs-is d, parts-apart d) in
+    rw (pos-sub circle (suc n) (omega arith), lt-ltb m circle (omega arith), lt-ltb half m (omega arith)) size
 
-some-le : (d : ℕ) (z : ℤ) → 0 < d + natAbs z → natAbs (asHeight (reading (pos d) z)) ≤ quarter
-some-le d (pos v) k =
-    rw (reading-is (pos d) (pos v) k, signs-plus-plus d v (angleToQuarter d v))
+pub height-size : (d : ℕ) (z : ℤ) → 0 < d + natAbs z
+    → natAbs (asHeight (angleOf (pos d) z)) ≡ natAbs (angleToQuarter d (natAbs z))
+unfolding angleOf
+height-size d (pos v) k =
+    rw (signs-plus-plus d v (angleToQuarter d v))
     (first-quarter (angleToQuarter d v) (angleToQuarter-range d v k))
-some-le d (negsuc v) k =
-    rw (reading-is (pos d) (negsuc v) k, signs-plus-minus d v (angleToQuarter d (suc v)))
+height-size d (negsuc v) k =
+    rw (signs-plus-minus d v (angleToQuarter d (suc v)))
     (by (angleToQuarter d (suc v)) (angleToQuarter-range d (suc v) k))
   where
-    by : (θ : ℤ) → UpTo θ quarter → natAbs (asHeight (notCircle (pos circle -ℤ θ))) ≤ quarter
+    by : (θ : ℤ) → UpTo θ quarter → natAbs (asHeight (notCircle (pos circle -ℤ θ))) ≡ natAbs θ
     by (negsuc n) i = absurd (omega (arith, i .low))
     by (pos n) i = last-quarter n (i .high)
 
-pub asHeight-le : (d : ℕ) (z : ℤ) → natAbs (asHeight (reading (pos d) z)) ≤ quarter
-unfolding asHeight reading
+some-le : (d : ℕ) (z : ℤ) → 0 < d + natAbs z → natAbs (asHeight (angleOf (pos d) z)) ≤ quarter
+some-le d z k =
+    rw (height-size d z k)
+    (upTo-le (angleToQuarter d (natAbs z)) quarter (angleToQuarter-range d (natAbs z) k))
+
+pub asHeight-le : (d : ℕ) (z : ℤ) → natAbs (asHeight (angleOf (pos d) z)) ≤ quarter
+unfolding asHeight rnd rndSize squareParts arcStage arcStages arc inMicroarcseconds flat tangent angleToHalf
+    angleToQuarter bySigns notCircle angleOf
 asHeight-le zero (pos zero) = omega arith
 asHeight-le zero (pos (suc v)) = some-le zero (pos (suc v)) (omega arith)
 asHeight-le zero (negsuc v) = some-le zero (negsuc v) (omega arith)

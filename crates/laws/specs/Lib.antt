@@ -32,6 +32,8 @@ pub mod HalfQuarterLess
 pub mod AdditionFormulas
 pub mod ReadingRange
 pub mod Heights
+pub mod NoAngle
+pub mod Poles
 pub mod ReadingParts
 pub mod Across
 pub mod Octant
@@ -50,6 +52,7 @@ pub mod Sun
 pub mod Sidereal
 pub mod Night
 pub mod Place
+pub mod Marks
 -- refraction: floats and their tenths, the weather record, the lift, the observed altitude
 pub mod FloatComparison
 pub mod Floats
@@ -75,6 +78,7 @@ pub mod OrderLeast
 -- a night, two places and an observed altitude worked out
 pub mod SampleNight
 pub mod SamplePlace
+pub mod SampleNoAngle
 pub mod SampleObserved
 -- tests: computed at each number below a bound; of ranges
 pub mod Every

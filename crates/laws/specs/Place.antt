@@ -12,6 +12,7 @@ use Rattle.rules.specs.declared.Tt.{Tt}
 use Rattle.rules.specs.declared.Direction.{Direction}
 use Rattle.rules.specs.declared.Moment.{Moment}
 use Rattle.rules.specs.declared.Site.{Site}
+use Rattle.rules.specs.declared.Read.{Read}
 use Rattle.rules.specs.declared.Place.{Place}
 use Rattle.rules.specs.declared.Instants.{Instants}
 use Rattle.rules.specs.declared.Placed.{Placed}
@@ -37,7 +38,7 @@ use Rattle.laws.specs.Turning.{turnBy-accepted}
 use Rattle.laws.specs.Aberration.{plus-accepted}
 use Rattle.laws.specs.Night.{NightFits}
 use Rattle.laws.specs.UpTo.{UpTo}
-use Rattle.laws.specs.ReadingRange.{reading-range}
+use Rattle.laws.specs.NoAngle.{reading-range}
 use Rattle.laws.specs.Heights.{height-le}
 
 -- ---- a star that is not refused
@@ -135,9 +136,9 @@ module _ (n : Night) (h : NightFits n) where
 
 -- right ascension and azimuth from 0 to C − 1, declination and altitude within a quarter
 pub record PlaceRanges (p : Place) : Type 0 where
-  pub ra : UpTo (p .ra) (circle - 1)
+  pub ra : (a : ℤ) → p .ra ≡ Read.Angle a → UpTo a (circle - 1)
   pub declination : natAbs (p .declination) ≤ quarter
-  pub azimuth : UpTo (p .azimuth) (circle - 1)
+  pub azimuth : (a : ℤ) → p .azimuth ≡ Read.Angle a → UpTo a (circle - 1)
   pub altitude : natAbs (p .altitude) ≤ quarter
 
 pub placeIn-ranges : (n : Night) (s : Star) → PlaceRanges (placeIn n s)
@@ -146,9 +147,9 @@ placeIn-ranges n s =
     let v = apparent n s in
     let w = overhead n v in
     record {
-      ra = reading-range (v .x) (v .y);
+      ra = λ a e. reading-range (v .x) (v .y) a e;
       declination = height-le v;
-      azimuth = reading-range (negℤ (w .x)) (w .y);
+      azimuth = λ a e. reading-range (negℤ (w .x)) (w .y) a e;
       altitude = height-le w;
     }
 

@@ -1,4 +1,4 @@
--- The two promises of a reading, of every (h, v) but (0, 0), with the pair of the answer (docs/MATHEMATICS.md,
+-- The two promises of a reading, of every (h, v) that has an angle, with the pair of the answer (docs/MATHEMATICS.md,
 -- "The whole circle of a reading"): from the first octant to the whole circle, by the laws of angles.
 use mathlib.Core.Path.{_≡_, refl, sym, ap, _∙_}
 use mathlib.Core.Bool.{Bool, true, false, cond}
@@ -13,14 +13,16 @@ use Rattle.integers.specs.Difference.{posPart, negPart, eq-of-parts, ltZ-false}
 use Rattle.integers.specs.Size.{abs-neg}
 use Rattle.integers.specs.Ring.{ring, v0, v1, v2, v3, _⊕_, _⊖_, _⊗_, neg}
 use Rattle.rules.specs.Units.{circle, half}
+use Rattle.rules.specs.declared.Read.{Read}
 use Rattle.rules.specs.declared.Pair.{Pair}
 use Rattle.rules.specs.Circle.{pair}
-use Rattle.rules.specs.Reading.{angleToHalf, angleToQuarter, bySigns, notCircle, reading, Reads}
+use Rattle.rules.specs.Reading.{angleToHalf, angleToQuarter, bySigns, notCircle, angleOf, reading, Reads}
 use Rattle.laws.specs.UpTo.{UpTo}
 use Rattle.laws.specs.Angles.{pair-circle, pair-opposite, pair-complement, pair-half, pair-supplement}
-use Rattle.laws.specs.ReadingRange.{angle-wide, angle-high, angleToQuarter-range, bySigns-range, reading-is}
+use Rattle.laws.specs.ReadingRange.{angle-wide, angle-high, angleToQuarter-range, bySigns-range}
 use Rattle.laws.specs.ReadingRange.{signs-plus-plus, signs-minus-plus, signs-minus-minus, signs-plus-minus}
 use Rattle.laws.specs.Octant.{Points, octant-points}
+use Rattle.laws.specs.NoAngle.{angled}
 
 -- ---- the promises, mirrored
 
@@ -101,10 +103,15 @@ notCircle-pair a i = by (ltZ a (pos circle)) (ltZ-false a (pos circle))
 
 -- ---- the whole circle
 
-pub reading-reads : (h v : ℤ) → 0 < natAbs h + natAbs v → Reads h v (reading h v)
-reading-reads h v k =
+angle-points : (h v : ℤ) → 0 < natAbs h + natAbs v → Points (pair (angleOf h v)) h v
+unfolding angleOf
+angle-points h v k =
     let θ = angleToQuarter (natAbs h) (natAbs v) in
     let i = bySigns-range h v θ (angleToQuarter-range (natAbs h) (natAbs v) k) in
-    let p : Points (pair (reading h v)) h v = rw (reading-is h v k, notCircle-pair (bySigns h v θ) i)
-    (signs-points h v θ (quarter-points (natAbs h) (natAbs v) k)) in
-    record { across = p .across; along = p .along }
+    rw (notCircle-pair (bySigns h v θ) i) (signs-points h v θ (quarter-points (natAbs h) (natAbs v) k))
+
+pub reading-reads : (h v a : ℤ) → reading h v ≡ Read.Angle a → Reads h v a
+reading-reads h v a e =
+    let k = angled h v a e in
+    let p = angle-points h v (k .some) in
+    rw (k .is) (record { across = p .across; along = p .along })

@@ -13,9 +13,11 @@ use lib.IntN.{ℤ, pos, negsuc, natAbs, _+ℤ_, _-ℤ_}
 use lib.Signed.{ltZ}
 use Rattle.integers.specs.Difference.{posPart, negPart, ltZ-true}
 use Rattle.rules.specs.Units.{circle, half, quarter, halfQuarter, halfInParts}
-use Rattle.rules.specs.Rounding.{rndSize}
-use Rattle.rules.specs.Reading.{arc, inMicroarcseconds, flat, tangent, angleToHalf, angleToQuarter, bySigns, notCircle}
-use Rattle.rules.specs.Reading.{reading}
+use Rattle.rules.specs.declared.Read.{Read}
+use Rattle.rules.specs.Rounding.{rnd, rndSize}
+use Rattle.rules.specs.Circle.{squareParts}
+use Rattle.rules.specs.Reading.{arcStage, arcStages, arc, inMicroarcseconds, flat, tangent, angleToHalf}
+use Rattle.rules.specs.Reading.{angleToQuarter, bySigns, notCircle, angleOf, reading}
 use Rattle.laws.specs.Rounding.{rnd-pos, rndSize-low}
 use Rattle.laws.specs.UpTo.{UpTo, upTo-pos, upTo-of-le, upTo-less, upTo-more}
 use Rattle.laws.specs.Arc.{ratio, threeSevenths, arc-of-ratio-range}
@@ -127,35 +129,35 @@ notCircle-range a i = by (ltZ a (pos circle)) (ltZ-true a (pos circle))
         record { low = i .low; high = omega (arith, i .low) }
     by false k = upTo-pos 0 (circle - 1) (omega arith)
 
+-- ---- the angle
+
+some-range : (h v : ℤ) → 0 < natAbs h + natAbs v → UpTo (angleOf h v) (circle - 1)
+unfolding angleOf
+some-range h v k =
+    let θ = angleToQuarter (natAbs h) (natAbs v) in
+    notCircle-range (bySigns h v θ) (bySigns-range h v θ (angleToQuarter-range (natAbs h) (natAbs v) k))
+
+-- every angle lies from 0 to C − 1
+pub angleOf-range : (h v : ℤ) → UpTo (angleOf h v) (circle - 1)
+unfolding rnd rndSize squareParts arcStage arcStages arc inMicroarcseconds flat tangent angleToHalf angleToQuarter
+    bySigns notCircle angleOf
+angleOf-range (pos zero) (pos zero) = upTo-pos 0 (circle - 1) (omega arith)
+angleOf-range (pos zero) (pos (suc v)) = some-range (pos zero) (pos (suc v)) (omega arith)
+angleOf-range (pos zero) (negsuc v) = some-range (pos zero) (negsuc v) (omega arith)
+angleOf-range (pos (suc h)) v = some-range (pos (suc h)) v (omega arith)
+angleOf-range (negsuc h) v = some-range (negsuc h) v (omega arith)
+
 -- ---- the reading
 
 -- where h and v are not both nought
-pub reading-is : (h v : ℤ) → 0 < natAbs h + natAbs v
-    → reading h v ≡ notCircle (bySigns h v (angleToQuarter (natAbs h) (natAbs v)))
+pub reading-is : (h v : ℤ) → 0 < natAbs h + natAbs v → reading h v ≡ Read.Angle (angleOf h v)
 unfolding reading
 reading-is h v k = by (eqb (natAbs h) 0 && eqb (natAbs v) 0) (λ t. and-yes (eqb (natAbs h) 0) (eqb (natAbs v) 0) t)
   where
-    a : ℤ
-    a = notCircle (bySigns h v (angleToQuarter (natAbs h) (natAbs v)))
-
-    by : (t : Bool) → (T t → T (eqb (natAbs h) 0) × T (eqb (natAbs v) 0)) → cond t (pos 0) a ≡ a
+    by : (t : Bool) → (T t → T (eqb (natAbs h) 0) × T (eqb (natAbs v) 0))
+        → cond t Read.NoAngle (Read.Angle (angleOf h v)) ≡ Read.Angle (angleOf h v)
     by true p =
         let e = eqb→eq (natAbs h) 0 (p tt .0) in
         let f = eqb→eq (natAbs v) 0 (p tt .1) in
         absurd (omega arith)
     by false p = refl
-
-some-range : (h v : ℤ) → 0 < natAbs h + natAbs v → UpTo (reading h v) (circle - 1)
-some-range h v k =
-    let θ = angleToQuarter (natAbs h) (natAbs v) in
-    rw (reading-is h v k)
-    (notCircle-range (bySigns h v θ) (bySigns-range h v θ (angleToQuarter-range (natAbs h) (natAbs v) k)))
-
--- every reading lies from 0 to C − 1
-pub reading-range : (h v : ℤ) → UpTo (reading h v) (circle - 1)
-unfolding reading
-reading-range (pos zero) (pos zero) = upTo-pos 0 (circle - 1) (omega arith)
-reading-range (pos zero) (pos (suc v)) = some-range (pos zero) (pos (suc v)) (omega arith)
-reading-range (pos zero) (negsuc v) = some-range (pos zero) (negsuc v) (omega arith)
-reading-range (pos (suc h)) v = some-range (pos (suc h)) v (omega arith)
-reading-range (negsuc h) v = some-range (negsuc h) v (omega arith)

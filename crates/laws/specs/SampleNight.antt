@@ -11,6 +11,7 @@ use Rattle.rules.specs.declared.Nutation.{Nutation}
 use Rattle.rules.specs.declared.Site.{Site}
 use Rattle.rules.specs.declared.Night.{Night}
 use Rattle.rules.specs.declared.Instants.{Instants}
+use Rattle.rules.specs.declared.Prepared.{Prepared}
 use Rattle.rules.specs.Units.{quarter, unit, +_, −_, same, between, within}
 use Rattle.rules.specs.Rounding.{rnd, rndSize, modulo, remainder}
 use Rattle.rules.specs.Years.{leap, months, sum, upFrom, years}
@@ -26,7 +27,7 @@ use Rattle.rules.specs.Arguments.{arguments}
 use Rattle.rules.specs.Nutation.{termAngle, longitudeProduct, obliquityProduct, total, nutationBy, nutation}
 use Rattle.rules.specs.Sun.{meanLongitude, centreProduct, centreSum, centre, sunLongitude}
 use Rattle.rules.specs.Sidereal.{siderealPolynomial, sidereal}
-use Rattle.rules.specs.Night.{aberrationX, aberrationY, aberration, localSidereal, night}
+use Rattle.rules.specs.Night.{aberrationX, aberrationY, aberration, localSidereal, night, siteRefused, nightAt, nightOf}
 
 -- ---- the moment and the site
 
@@ -53,7 +54,7 @@ evening-is = refl
 
 -- ---- the night
 
-abbrev pairOf : ℤ → ℤ → Pair
+abbrev pub pairOf : ℤ → ℤ → Pair
 pairOf c s = record { cosine = c; sine = s }
 
 abbrev pub direction : ℤ → ℤ → ℤ → Direction
@@ -71,6 +72,21 @@ tonight = record {
   «true_epsilon» = pairOf (+ 985145387) (+ 427094921);
   «minus_sidereal» = pairOf (− 729340088) (− 788025725);
   «latitude_less_quarter» = pairOf (+ 823590368) (− 688927000);
+}
+
+-- a night with another pair of latitude − quarter
+abbrev turnedBy : Pair → Night → Night
+turnedBy p n = record {
+  tt = n .tt;
+  zeta = n .zeta;
+  «minus_theta» = n .«minus_theta»;
+  z = n .z;
+  aberration = n .aberration;
+  «minus_epsilon» = n .«minus_epsilon»;
+  «delta_psi» = n .«delta_psi»;
+  «true_epsilon» = n .«true_epsilon»;
+  «minus_sidereal» = n .«minus_sidereal»;
+  «latitude_less_quarter» = p;
 }
 
 -- the night of a nutation and a longitude of the Sun, each worked out before
@@ -106,8 +122,28 @@ unfolding rnd rndSize modulo remainder rootFrom root square pairSquares partTo p
     aberration
 parts-are = (refl, (refl, refl))
 
+-- the night of `here`
 pub night-is : night utNow ttNow here ≡ tonight
 night-is = in-parts
     ∙ ap (λ n. nightBy n (sunLongitude ttNow)) (parts-are .0)
     ∙ ap (nightBy nutationTonight) (parts-are .1 .0)
     ∙ parts-are .1 .1
+
+pub made-ready : nightOf evening here ≡ Prepared.For tonight
+unfolding nightOf nightAt siteRefused between within
+made-ready = ap (λ i. nightAt i here) evening-is ∙ ap Prepared.For night-is
+
+-- ---- the same evening on the meridian of `here`
+
+abbrev pub northOf : ℤ → Site
+northOf latitude = record { latitude = latitude; longitude = here .longitude }
+
+-- the last turn alone is another
+abbrev pub tonightBy : Pair → Night
+tonightBy p = turnedBy p tonight
+
+pub night-north : (latitude : ℤ) (p : Pair) → pair (remainder (latitude -ℤ pos quarter)) ≡ p
+    → night utNow ttNow (northOf latitude) ≡ tonightBy p
+unfolding night localSidereal
+night-north latitude p e =
+    ap (turnedBy (pair (remainder (latitude -ℤ pos quarter)))) night-is ∙ ap tonightBy e

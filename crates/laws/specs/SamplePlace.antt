@@ -4,8 +4,10 @@ use mathlib.Core.Path.{_≡_, refl, ap, _∙_}
 use mathlib.Core.Bool.{false}
 use Rattle.rules.specs.declared.Direction.{Direction}
 use Rattle.rules.specs.declared.Star.{Star}
+use Rattle.rules.specs.declared.Site.{Site}
+use Rattle.rules.specs.declared.Night.{Night}
+use Rattle.rules.specs.declared.Read.{Read}
 use Rattle.rules.specs.declared.Place.{Place}
-use Rattle.rules.specs.declared.Instants.{Instants}
 use Rattle.rules.specs.declared.Placed.{Placed}
 use Rattle.rules.specs.Units.{+_, −_, same, between, within}
 use Rattle.rules.specs.Rounding.{rnd, rndSize, modulo, remainder}
@@ -14,7 +16,7 @@ use Rattle.rules.specs.Circle.{radianParts, squareParts, stage, stages, rawSine
 use Rattle.rules.specs.Circle.{exchangedPair, pairToQuarter, inQuarter, folded, pair}
 use Rattle.rules.specs.Turning.{turn3, exchanged, turn1, turn2, turnAbout, turnBy}
 use Rattle.rules.specs.Reading.{arcStage, arcStages, arc, inMicroarcseconds, flat, tangent, angleToHalf}
-use Rattle.rules.specs.Reading.{angleToQuarter, bySigns, notCircle, reading}
+use Rattle.rules.specs.Reading.{angleToQuarter, bySigns, notCircle, angleOf, reading}
 use Rattle.rules.specs.Heights.{asHeight, height}
 use Rattle.rules.specs.Night.{night, siteRefused}
 use Rattle.rules.specs.Stars.{starRefused}
@@ -25,39 +27,37 @@ use Rattle.laws.specs.SampleNight.{evening, here, utNow, ttNow, evening-
 -- ---- the six steps
 
 -- what the steps of a star come to: v2 is the direction after steps 1 and 2, v3 after step 3, and so on
-record Steps (s : Star) (v2 v3 v4 v5 v6 : Direction) (p : Place) : Type 0 where
-  step2 : directed (moved ttNow (s .ra) (s .«ra_motion»)) (moved ttNow (s .declination) (s .«declination_motion»)) ≡ v2
-  step3 : precessed tonight v2 ≡ v3
-  step4 : aberrated tonight v3 ≡ v4
-  step5 : nutated tonight v4 ≡ v5
-  step6 : overhead tonight v5 ≡ v6
-  read : readings v5 v6 ≡ p
+pub record Steps (n : Night) (s : Star) (v2 v3 v4 v5 v6 : Direction) (p : Place) : Type 0 where
+  pub step2 : directed (moved (n .tt) (s .ra) (s .«ra_motion»))
+      (moved (n .tt) (s .declination) (s .«declination_motion»)) ≡ v2
+  pub step3 : precessed n v2 ≡ v3
+  pub step4 : aberrated n v3 ≡ v4
+  pub step5 : nutated n v4 ≡ v5
+  pub step6 : overhead n v5 ≡ v6
+  pub read : readings v5 v6 ≡ p
 
-place-of-steps : (s : Star) {v2 v3 v4 v5 v6 : Direction} {p : Place} → Steps s v2 v3 v4 v5 v6 p
-    → placeIn tonight s ≡ p
+pub place-of-steps : (n : Night) (s : Star) {v2 v3 v4 v5 v6 : Direction} {p : Place} → Steps n s v2 v3 v4 v5 v6 p
+    → placeIn n s ≡ p
 unfolding placeIn apparent
-place-of-steps s {v5 = v5} h =
-    ap (λ v. seen (nutated tonight (aberrated tonight (precessed tonight v)))) (h .step2)
-    ∙ ap (λ v. seen (nutated tonight (aberrated tonight v))) (h .step3)
-    ∙ ap (λ v. seen (nutated tonight v)) (h .step4)
+place-of-steps n s {v5 = v5} h =
+    ap (λ v. seen (nutated n (aberrated n (precessed n v)))) (h .step2)
+    ∙ ap (λ v. seen (nutated n (aberrated n v))) (h .step3)
+    ∙ ap (λ v. seen (nutated n v)) (h .step4)
     ∙ ap seen (h .step5)
     ∙ ap (readings v5) (h .step6)
     ∙ h .read
   where
     seen : Direction → Place
-    seen v = readings v (overhead tonight v)
+    seen v = readings v (overhead n v)
 
-answered : (s : Star) → starRefused s ≡ false
-    → placeAt (Instants.At utNow ttNow) s here ≡ Placed.At (placeIn (night utNow ttNow here) s)
-unfolding placeAt siteRefused between within
-answered s h = rw h
-
-stands : (s : Star) {p : Place} → starRefused s ≡ false → placeIn tonight s ≡ p → place evening s here ≡ Placed.At p
-unfolding place
-stands s h e = ap (λ i. placeAt i s here) evening-is
-    ∙ answered s h
-    ∙ ap (λ n. Placed.At (placeIn n s)) night-is
-    ∙ ap Placed.At e
+-- a star that is accepted, at a site that is
+pub stands : (site : Site) (n : Night) (s : Star) {p : Place} → siteRefused site ≡ false
+    → night utNow ttNow site ≡ n → starRefused s ≡ false → placeIn n s ≡ p → place evening s site ≡ Placed.At p
+unfolding place placeAt
+stands site n s k e h f = ap (λ i. placeAt i s site) evening-is
+    ∙ rw (k, h)
+    (ap (λ n. Placed.At (placeIn n s)) e
+    ∙ ap Placed.At f)
 
 -- ---- two stars
 
@@ -76,22 +76,22 @@ equinox = record { ra = + 0; declination = + 0; «ra_motion» = + 0; «declinati
 -- its place
 abbrev pub siriusPlace : Place
 siriusPlace = record {
-  ra = + 365681449792;
+  ra = Read.Angle (+ 365681449792);
   declination = − 60318875478;
-  azimuth = + 760999641899;
+  azimuth = Read.Angle (+ 760999641899);
   altitude = + 63789202431;
 }
 
 -- its place
 abbrev pub equinoxPlace : Place
 equinoxPlace = record {
-  ra = + 1196121190;
+  ra = Read.Angle (+ 1196121190);
   declination = + 519770523;
-  azimuth = + 1098507906186;
+  azimuth = Read.Angle (+ 1098507906186);
   altitude = − 91944707618;
 }
 
-sirius-steps : Steps sirius
+sirius-steps : Steps tonight sirius
     (direction (− 201196050) (+ 1008444631) (− 309000131))
     (direction (− 206317076) (+ 1007250048) (− 309519161))
     (direction (− 206331963) (+ 1007226897) (− 309584566))
@@ -102,7 +102,7 @@ unfolding rnd rndSize modulo remainder rootFrom root square squares partTo toLen
     stages rawSine rawCosine pairSquares pairToLength pairOfParts pairToHalf exchangedPair pairToQuarter inQuarter
     folded pair same turn3 exchanged turn1 turn2 turnAbout turnBy moved directed precessed aberrated nutated overhead
     readings arcStage arcStages arc inMicroarcseconds flat tangent angleToHalf angleToQuarter bySigns notCircle
-    reading asHeight height
+    angleOf reading asHeight height
 sirius-steps = record {
   step2 = refl;
   step3 = refl;
@@ -112,7 +112,7 @@ sirius-steps = record {
   read = refl;
 }
 
-equinox-steps : Steps equinox
+equinox-steps : Steps tonight equinox
     (direction (+ 1073741824) (+ 0) (+ 0))
     (direction (+ 1073719888) (+ 6295066) (+ 2735119))
     (direction (+ 1073720564) (+ 6197177) (+ 2692687))
@@ -123,7 +123,7 @@ unfolding rnd rndSize modulo remainder rootFrom root square squares partTo toLen
     stages rawSine rawCosine pairSquares pairToLength pairOfParts pairToHalf exchangedPair pairToQuarter inQuarter
     folded pair same turn3 exchanged turn1 turn2 turnAbout turnBy moved directed precessed aberrated nutated overhead
     readings arcStage arcStages arc inMicroarcseconds flat tangent angleToHalf angleToQuarter bySigns notCircle
-    reading asHeight height
+    angleOf reading asHeight height
 equinox-steps = record {
   step2 = refl;
   step3 = refl;
@@ -133,10 +133,16 @@ equinox-steps = record {
   read = refl;
 }
 
+pub sirius-place : placeIn tonight sirius ≡ siriusPlace
+sirius-place = place-of-steps tonight sirius sirius-steps
+
+pub equinox-place : placeIn tonight equinox ≡ equinoxPlace
+equinox-place = place-of-steps tonight equinox equinox-steps
+
 pub sirius-stands : place evening sirius here ≡ Placed.At siriusPlace
-unfolding starRefused between within
-sirius-stands = stands sirius refl (place-of-steps sirius sirius-steps)
+unfolding starRefused siteRefused between within
+sirius-stands = stands here tonight sirius refl night-is refl sirius-place
 
 pub equinox-stands : place evening equinox here ≡ Placed.At equinoxPlace
-unfolding starRefused between within
-equinox-stands = stands equinox refl (place-of-steps equinox equinox-steps)
+unfolding starRefused siteRefused between within
+equinox-stands = stands here tonight equinox refl night-is refl equinox-place

@@ -2,16 +2,17 @@
 use Prim.Native.Nat.{ℕ}
 use mathlib.Core.Bool.{Bool, cond}
 use mathlib.Core.List.{List}
-use lib.Dec.{eqb}
 use lib.IntN.{ℤ, pos, _+ℤ_}
 use Rattle.rules.specs.declared.Entry.{Entry}
 use Rattle.rules.specs.Times.{decimal}
+use Rattle.rules.specs.NightList.{filled}
 use Rattle.rules.specs.Refraction.{liftAt}
 use Rattle.sexagesimal.specs.Sexagesimal.{spaced, elevation}
 
--- by the tenths of pressure and temperature: of an entry with mark 0 its altitude and the lift, of any other 0
+-- by the tenths of pressure and temperature: of an entry with mark 0 or 1 its altitude and
+-- the lift, of any other 0
 unfoldable pub observedOf : ℤ → ℤ → Entry → ℤ
-observedOf p t e = let h = e .place .altitude in cond (eqb (e .mark) 0) (h +ℤ liftAt p t h) (pos 0)
+observedOf p t e = let h = e .angles .altitude in cond (filled e) (h +ℤ liftAt p t h) (pos 0)
 
 -- in µas, or for people as the altitude is
 unfoldable pub observedColumn : Bool → ℤ → ℤ → Entry → List ℕ

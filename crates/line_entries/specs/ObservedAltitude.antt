@@ -3,7 +3,7 @@ use mathlib.Core.Path.{_≡_}
 use mathlib.Core.Bool.{Bool, true, false, cond}
 use Prim.Native.Nat.{suc, _^_, _≤_}
 use native.Mathlib.Omega.{arith}
-use lib.Dec.{eqb, lit≤}
+use lib.Dec.{lit≤}
 use lib.IntN.{ℤ, pos, natAbs, _+ℤ_}
 use lib.ListN.{length}
 use Rattle.integers.specs.Difference.{add-is}
@@ -13,6 +13,7 @@ use Rattle.rules.specs.declared.Entry.{Entry}
 use Rattle.rules.specs.Units.{quarter}
 use Rattle.rules.specs.Times.{decimal}
 use Rattle.rules.specs.Floats.{tenths}
+use Rattle.rules.specs.NightList.{filled}
 use Rattle.rules.specs.Refraction.{liftAt, lift, observed}
 use Rattle.laws.specs.Refraction.{Air, liftAt-range, liftAt-nought, lifted-or}
 use Rattle.laws.specs.ObservedAltitude.{liftAt-room}
@@ -21,27 +22,27 @@ use Rattle.sexagesimal.specs.Widths.{elevation-length}
 use Rattle.line_entries.specs.Observed.{observedOf, observedColumn}
 use Rattle.line_entries.specs.Lengths.{number-le}
 
--- of an entry with mark 0 it is the module's, by a record whose floats have these tenths
-pub as-the-module : (w : Weather) (e : Entry) → w .«has_pressure» ≡ true → w .«has_temperature» ≡ true → e .mark ≡ 0
-    → observedOf (tenths (w .pressure)) (tenths (w .temperature)) e ≡ observed w (e .place .altitude)
+-- of an entry with mark 0 or 1 it is the module's, by a record whose floats have these tenths
+pub as-the-module : (w : Weather) (e : Entry) → w .«has_pressure» ≡ true → w .«has_temperature» ≡ true → filled e ≡ true
+    → observedOf (tenths (w .pressure)) (tenths (w .temperature)) e ≡ observed w (e .angles .altitude)
 unfolding observedOf observed lift
 as-the-module w e hp ht hm = rw (hm, hp, ht)
 
 module _ (p t : ℤ) (air : Air p t) where
   -- the sum fits wherever the altitude does
-  pub observedOf-or : (e : Entry) (P : ℤ → Type 0) → P (e .place .altitude) → ((z : ℤ) → natAbs z ≤ 2 ^ 62 → P z)
-      → P (e .place .altitude +ℤ liftAt p t (e .place .altitude))
+  pub observedOf-or : (e : Entry) (P : ℤ → Type 0) → P (e .angles .altitude) → ((z : ℤ) → natAbs z ≤ 2 ^ 62 → P z)
+      → P (e .angles .altitude +ℤ liftAt p t (e .angles .altitude))
   observedOf-or e P k m =
-      let h = e .place .altitude in
+      let h = e .angles .altitude in
       lifted-or h (liftAt p t h) P (liftAt-range p t h air) (liftAt-nought p t h) k m
 
   -- within a quarter where the altitude is
-  pub observedOf-within : (e : Entry) → natAbs (e .place .altitude) ≤ quarter → natAbs (observedOf p t e) ≤ quarter
+  pub observedOf-within : (e : Entry) → natAbs (e .angles .altitude) ≤ quarter → natAbs (observedOf p t e) ≤ quarter
   unfolding observedOf
-  observedOf-within e k = go (eqb (e .mark) 0)
+  observedOf-within e k = go (filled e)
     where
       h : ℤ
-      h = e .place .altitude
+      h = e .angles .altitude
 
       l : ℤ
       l = liftAt p t h

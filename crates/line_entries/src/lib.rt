@@ -1,11 +1,11 @@
 // The line of an entry, of our own program `places`, put at the front of lent memory.
 
+use crate::angles::put_equatorial;
+use crate::angles::put_horizontal;
+use crate::angles::put_two;
 use decimals::put;
+use rules::Angles;
 use rules::Entry;
-use rules::Place;
-use sexagesimal::put_bearing;
-use sexagesimal::put_elevation;
-use sexagesimal::put_hours;
 ghost use mathlib.Core.Path.{_≡_};
 ghost use Prim.Native.Nat.{_≤_, _+_};
 ghost use lib.ListN.{length};
@@ -14,6 +14,7 @@ ghost use Rattle.rules.specs.Times.{decimal};
 ghost use Rattle.line_entries.specs.EntryLine as rule;
 ghost use Rattle.sexagesimal.specs.Sexagesimal.{spaced};
 
+mod angles;
 pub mod observed;
 
 // A space and a number.
@@ -27,27 +28,23 @@ fn put_spaced(n: i64, at: usize, out: &mut [u8]) -> usize
 }
 
 // Four angles in µas.
-fn put_plain(place: Place, at: usize, out: &mut [u8]) -> usize
+fn put_plain(angles: Angles, at: usize, out: &mut [u8]) -> usize
     requires { ⌜ at + 84 ≤ length (now out) ⌝ }
-    ensures { λ r. ⌜ r ≡ at + length (rule.plainAngles place) ⌝ }
-    ensures { λ _. ⌜ now (out .exit) ≡ sets (now (out .entry)) at (rule.plainAngles place) ⌝ }
+    ensures { λ r. ⌜ r ≡ at + length (rule.plainAngles angles) ⌝ }
+    ensures { λ _. ⌜ now (out .exit) ≡ sets (now (out .entry)) at (rule.plainAngles angles) ⌝ }
 {
-    let a = put_spaced(place.ra, at, out);
-    let b = put_spaced(place.declination, a, out);
-    let c = put_spaced(place.azimuth, b, out);
-    put_spaced(place.altitude, c, out)
+    let a = put_two(angles.ra, angles.declination, at, out);
+    put_two(angles.azimuth, angles.altitude, a, out)
 }
 
 // Four angles for people.
-fn put_people(place: Place, at: usize, out: &mut [u8]) -> usize
+fn put_people(angles: Angles, at: usize, out: &mut [u8]) -> usize
     requires { ⌜ at + 84 ≤ length (now out) ⌝ }
-    ensures { λ r. ⌜ r ≡ at + length (rule.peopleAngles place) ⌝ }
-    ensures { λ _. ⌜ now (out .exit) ≡ sets (now (out .entry)) at (rule.peopleAngles place) ⌝ }
+    ensures { λ r. ⌜ r ≡ at + length (rule.peopleAngles angles) ⌝ }
+    ensures { λ _. ⌜ now (out .exit) ≡ sets (now (out .entry)) at (rule.peopleAngles angles) ⌝ }
 {
-    let a = put_hours(place.ra, at, out);
-    let b = put_elevation(place.declination, a, out);
-    let c = put_bearing(place.azimuth, b, out);
-    put_elevation(place.altitude, c, out)
+    let a = put_equatorial(angles.ra, angles.declination, at, out);
+    put_horizontal(angles.azimuth, angles.altitude, a, out)
 }
 
 // Number, mark and four angles of an entry.
@@ -60,7 +57,7 @@ pub fn put_entry(index: usize, entry: Entry, people: bool, out: &mut [u8]) -> us
     let a = put(index as i64, 0, out);
     let b = put_spaced(entry.mark as i64, a, out);
     if people {
-        return put_people(entry.place, b, out);
+        return put_people(entry.angles, b, out);
     }
-    put_plain(entry.place, b, out)
+    put_plain(entry.angles, b, out)
 }

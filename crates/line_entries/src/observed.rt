@@ -1,6 +1,7 @@
 // The observed altitude of an entry, in a column of its own.
 
 use crate::put_spaced;
+use marks::is_filled;
 use refraction::lift_at;
 use rules::Entry;
 use sexagesimal::put_elevation;
@@ -16,11 +17,11 @@ fn observed_of(p: i64, t: i64, entry: Entry) -> i64
     requires { ⌜ Air p t ⌝ }
     ensures { λ r. ⌜ r ≡ rule.observedOf p t entry ⌝ }
 {
-    if entry.mark != 0 {
-        return 0;
+    if is_filled(entry) {
+        let h = entry.angles.altitude;
+        return h + lift_at(h, p, t);
     }
-    let h = entry.place.altitude;
-    h + lift_at(h, p, t)
+    0
 }
 
 // The observed altitude after a space, in µas or for people.

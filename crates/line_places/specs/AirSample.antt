@@ -9,6 +9,7 @@ use Rattle.rules.specs.Rounding.{rnd, rndSize, modulo}
 use Rattle.rules.specs.Length.{rootFrom, root, square, pairSquares, partTo, pairToLength}
 use Rattle.rules.specs.Circle.{radianParts, squareParts, stage, stages, rawSine, rawCosine, pairOfParts}
 use Rattle.rules.specs.Circle.{pairToHalf, exchangedPair, pairToQuarter, inQuarter, folded, pair}
+use Rattle.rules.specs.NightList.{filled}
 use Rattle.rules.specs.Refraction.{argument, notBelowNought, liftOf, standardLift, inWeather, isLifted, liftAt}
 use Rattle.rules.specs.Bytes.{sameBytes}
 use Rattle.rules.specs.Numerals.{isDigit, alike, ofForm, negative, unsigned, ofDigits, spelled}
@@ -16,7 +17,7 @@ use Rattle.rules.specs.Times.{decimalBefore, decimal, newline, ended}
 use Rattle.laws.specs.Decimal.{lastDigits}
 use Rattle.numerals.specs.Tenths.{hasPoint, beforePoint, afterPoint, ofSize, sizeOf, ofTenths, tenthsOf}
 use Rattle.sexagesimal.specs.Sexagesimal.{marked, clock, sexagesimal, roundIn, hours, bearing, signOf, elevation}
-use Rattle.line_entries.specs.EntryLine.{plainAngles, peopleAngles, entryLine}
+use Rattle.line_entries.specs.EntryLine.{orDash, two, equatorial, horizontal, plainAngles, peopleAngles, entryLine}
 use Rattle.line_entries.specs.Observed.{observedOf, observedColumn}
 use Rattle.line_places.specs.declared.air.Air.{Air}
 use Rattle.line_places.specs.declared.command.Command.{Command}
@@ -72,22 +73,23 @@ sample-command-for-people = refl
 -- ---- the lift
 
 sirius-seen : observedOf (+ 10132) (− 105) siriusEntry ≡ + 63990866895
-unfolding observedOf liftAt isLifted inWeather standardLift liftOf notBelowNought argument between rnd rndSize modulo
-    rootFrom root square pairSquares partTo pairToLength radianParts squareParts stage stages rawSine rawCosine
+unfolding observedOf filled liftAt isLifted inWeather standardLift liftOf notBelowNought argument between rnd rndSize
+    modulo rootFrom root square pairSquares partTo pairToLength radianParts squareParts stage stages rawSine rawCosine
     pairOfParts pairToHalf exchangedPair pairToQuarter inQuarter folded pair
 sirius-seen = refl
 
 equinox-seen : observedOf (+ 10132) (− 105) equinoxEntry ≡ − 91944707618
-unfolding observedOf liftAt isLifted between
+unfolding observedOf filled liftAt isLifted between
 equinox-seen = refl
 
 -- ---- all that is printed
 
 pub sample-with-air : places false air sampleFile sampleInput ≡ airOutput
-unfolding headerIn lineIn observedColumn airAccepted between ended entryLine plainAngles decimal decimalBefore
+unfolding headerIn lineIn observedColumn airAccepted between ended entryLine plainAngles two orDash decimal
+    decimalBefore
 sample-with-air = printed false air refl ∙ rw (sirius-seen, equinox-seen)
 
 pub sample-with-air-for-people : places true air sampleFile sampleInput ≡ airPeopleOutput
-unfolding headerIn lineIn observedColumn airAccepted between ended entryLine peopleAngles hours bearing elevation
-    roundIn signOf sexagesimal clock marked lastDigits rnd rndSize modulo decimal decimalBefore
+unfolding headerIn lineIn observedColumn airAccepted between ended entryLine peopleAngles equatorial horizontal orDash
+    hours bearing elevation roundIn signOf sexagesimal clock marked lastDigits rnd rndSize modulo decimal decimalBefore
 sample-with-air-for-people = printed true air refl ∙ rw (sirius-seen, equinox-seen)

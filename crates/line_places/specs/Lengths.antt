@@ -7,20 +7,24 @@ use native.Mathlib.Omega.{arith}
 use lib.Dec.{lit≤}
 use lib.IntN.{ℤ, pos, negsuc, natAbs}
 use lib.ListN.{length, length-append}
+use Rattle.rules.specs.declared.Read.{Read}
 use Rattle.rules.specs.declared.Star.{Star}
 use Rattle.rules.specs.declared.Entry.{Entry}
 use Rattle.rules.specs.declared.Night.{Night}
 use Rattle.rules.specs.declared.ListedStar.{ListedStar}
 use Rattle.rules.specs.Units.{circle}
 use Rattle.rules.specs.Refusals.{number}
+use Rattle.rules.specs.Answers.{orNought}
+use Rattle.rules.specs.Reading.{reading}
 use Rattle.rules.specs.Stars.{starRefused}
 use Rattle.rules.specs.Place.{apparent, overhead, readings, placeIn}
 use Rattle.rules.specs.ListReading.{noughts, freshEntry, listStar}
-use Rattle.rules.specs.NightList.{worked}
+use Rattle.rules.specs.NightList.{anglesOf, entryOf, worked}
 use Rattle.rules.specs.ListFile.{mostRecords}
 use Rattle.laws.specs.UpTo.{UpTo}
-use Rattle.laws.specs.ReadingRange.{reading-range}
+use Rattle.laws.specs.NoAngle.{reading-range}
 use Rattle.laws.specs.Heights.{height-le}
+use Rattle.laws.specs.Marks.{mark-below-2}
 use Rattle.laws.specs.Times.{refused-line-le, number-le}
 use Rattle.line_entries.specs.EntryLine.{entryLine}
 use Rattle.line_entries.specs.Observed.{observedColumn}
@@ -36,7 +40,7 @@ use Rattle.line_places.specs.Entries.{star-index-le}
 -- ---- the line of an entry
 
 pub line-le : (people : Bool) (air : Air) (index : ℕ) (e : Entry) → airAccepted air ≡ true → index ≤ mostRecords
-    → e .mark ≤ 255 → AnglesLe (e .place)
+    → e .mark ≤ 255 → AnglesLe (e .angles)
     → length (lineIn people air index e) ≤ lineLength
 unfolding lineIn
 line-le people Air.Unknown index e a h k l = omega (arith, entry-le people index e h k l)
@@ -58,26 +62,36 @@ up-to-le (negsuc n) h = absurd (omega (arith, h .low))
 pub noughts-le : AnglesLe noughts
 noughts-le = record { ra = lit≤ tt; declination = lit≤ tt; azimuth = lit≤ tt; altitude = lit≤ tt }
 
-place-le : (n : Night) (s : Star) → AnglesLe (placeIn n s)
-unfolding placeIn readings
+or-nought-le : (h v : ℤ) → natAbs (orNought (reading h v)) ≤ circle
+unfolding orNought
+or-nought-le h v = by (reading h v) refl
+  where
+    by : (r : Read) → reading h v ≡ r → natAbs (orNought r) ≤ circle
+    by (Read.Angle a) e = up-to-le a (reading-range h v a e)
+    by Read.NoAngle e = lit≤ tt
+
+place-le : (n : Night) (s : Star) → AnglesLe (anglesOf (placeIn n s))
+unfolding anglesOf placeIn readings
 place-le n s = record {
-  ra = up-to-le _ (reading-range _ _);
+  ra = or-nought-le _ _;
   declination = height-le (apparent n s);
-  azimuth = up-to-le _ (reading-range _ _);
+  azimuth = or-nought-le _ _;
   altitude = height-le (overhead n (apparent n s));
 }
 
 module _ (people : Bool) (air : Air) (accepted : airAccepted air ≡ true) where
   pub worked-le : (n : Night) (index : ℕ) (e : Entry) → index ≤ mostRecords
       → length (lineIn people air index (worked n e)) ≤ lineLength
-  unfolding worked
+  unfolding worked entryOf
   worked-le n index e h = go (starRefused (e .star))
     where
       go : (b : Bool) → length (lineIn people air index (cond b
-          (record { star = e .star; mark = 5; place = noughts })
-          (record { star = e .star; mark = 0; place = placeIn n (e .star) }))) ≤ lineLength
+          (record { star = e .star; mark = 5; angles = noughts })
+          (entryOf (e .star) (placeIn n (e .star))))) ≤ lineLength
       go true = line-le people air index _ accepted h (lit≤ tt) noughts-le
-      go false = line-le people air index _ accepted h (lit≤ tt) (place-le n (e .star))
+      go false =
+          let p = placeIn n (e .star) in
+          line-le people air index _ accepted h (omega (arith, mark-below-2 (p .ra) (p .azimuth))) (place-le n (e .star))
 
   pub answer-le : (file : List ℕ) (n : Night) (index : ℕ) → length (answerLine people air file n index) ≤ lineLength
   unfolding answerLine starLine

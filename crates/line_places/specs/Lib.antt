@@ -18,4 +18,5 @@ pub mod OneToOne
 pub mod Commands
 pub mod WithoutWeather
 pub mod PlacesSample
+pub mod NoAngleSample
 pub mod AirSample

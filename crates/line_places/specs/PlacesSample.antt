@@ -1,39 +1,36 @@
 -- What the program prints for a list of two stars, worked out by the rules alone, byte for byte: Sirius and the star at
 -- the equinox, on the evening and at the site of `laws/specs/SampleNight.antt`.
-use mathlib.Core.Path.{_≡_, refl, sym, ap, _∙_}
+use mathlib.Core.Path.{_≡_, refl}
 use mathlib.Core.Bool.{Bool, true, false}
 use mathlib.Core.List.{List, [], _∷_, _++_}
 use Prim.Native.Nat.{ℕ}
 use Rattle.rules.specs.declared.Star.{Star}
 use Rattle.rules.specs.declared.Place.{Place}
 use Rattle.rules.specs.declared.Entry.{Entry}
-use Rattle.rules.specs.declared.Instants.{Instants}
-use Rattle.rules.specs.declared.Placed.{Placed}
-use Rattle.rules.specs.declared.Prepared.{Prepared}
 use Rattle.rules.specs.declared.Listed.{Listed}
 use Rattle.rules.specs.declared.ListedStar.{ListedStar}
-use Rattle.rules.specs.Units.{between, within}
+use Rattle.rules.specs.Units.{+_, −_, between, within}
 use Rattle.rules.specs.Rounding.{rnd, rndSize, modulo}
 use Rattle.rules.specs.Stars.{starRefused}
-use Rattle.rules.specs.Night.{siteRefused, night, nightAt, nightOf}
-use Rattle.rules.specs.Place.{placeIn, placeAt, place}
+use Rattle.rules.specs.Place.{placeIn}
 use Rattle.rules.specs.Bytes.{ofBytes, bytesOf, signedOf, unsignedOf}
 use Rattle.rules.specs.Bytes.{part, unsignedAt, signedAt, signedBytes, sameBytes}
 use Rattle.rules.specs.ListFile.{countIn, fileLength, starIn, recordOf, starsIn, stars, anyRefused}
 use Rattle.rules.specs.ListReading.{markRefused, countRefused, listCount, freshEntry, starAt, listStar}
 use Rattle.rules.specs.ListWriting.{fileOf}
-use Rattle.rules.specs.NightList.{worked}
+use Rattle.rules.specs.Answers.{hasAngle, orNought}
+use Rattle.rules.specs.NightList.{markOf, anglesOf, entryOf, worked}
 use Rattle.rules.specs.Numerals.{isDigit, alike, ofForm, negative, unsigned, ofDigits, ofNumber, spelled, field, signed}
 use Rattle.rules.specs.Lines.{moment, lineOf}
 use Rattle.rules.specs.Times.{decimalBefore, decimal, newline, ended}
 use Rattle.laws.specs.Decimal.{lastDigits}
-use Rattle.laws.specs.SampleNight.{evening, here, utNow, ttNow, evening-is, tonight, night-is}
-use Rattle.laws.specs.SamplePlace.{sirius, equinox, siriusPlace, equinoxPlace, sirius-stands, equinox-stands}
+use Rattle.laws.specs.SampleNight.{evening, here, tonight, made-ready}
+use Rattle.laws.specs.SamplePlace.{sirius, equinox, siriusPlace, equinoxPlace, sirius-place, equinox-place}
 use Rattle.line_asked.specs.declared.Asked.{Asked}
 use Rattle.line_asked.specs.Asking.{lengthBefore, firstWord, afterWord, ofSite, siteIn}
 use Rattle.line_asked.specs.Asking.{withSite, askedIn, momentEnd, askedOf}
 use Rattle.sexagesimal.specs.Sexagesimal.{marked, clock, sexagesimal, roundIn, hours, bearing, signOf, elevation}
-use Rattle.line_entries.specs.EntryLine.{plainAngles, peopleAngles, entryLine}
+use Rattle.line_entries.specs.EntryLine.{orDash, two, equatorial, horizontal, plainAngles, peopleAngles, entryLine}
 use Rattle.line_places.specs.declared.air.Air.{Air}
 use Rattle.line_places.specs.Air.{airAccepted}
 use Rattle.line_places.specs.Answers.{Begun, begunIn, begunFor, begunOf, inAir, begun}
@@ -68,24 +65,6 @@ peopleOutput = header ++ newline ∷
     ∷ 52 ∷ 32 ∷ 43 ∷ 48 ∷ 48 ∷ 58 ∷ 48 ∷ 56 ∷ 58 ∷ 51 ∷ 57 ∷ 46 ∷ 56 ∷ 32 ∷ 51 ∷ 48 ∷ 53 ∷ 58 ∷ 48 ∷ 56 ∷ 58 ∷ 50
     ∷ 55 ∷ 46 ∷ 57 ∷ 32 ∷ 45 ∷ 50 ∷ 53 ∷ 58 ∷ 51 ∷ 50 ∷ 58 ∷ 50 ∷ 52 ∷ 46 ∷ 55 ∷ 10 ∷ []
 
--- ---- the night and the places
-
-night-tonight : nightOf evening here ≡ Prepared.For tonight
-unfolding nightOf nightAt siteRefused between within
-night-tonight = ap (λ i. nightAt i here) evening-is ∙ ap Prepared.For night-is
-
-answered : (s : Star) → starRefused s ≡ false
-    → placeAt (Instants.At utNow ttNow) s here ≡ Placed.At (placeIn (night utNow ttNow here) s)
-unfolding placeAt siteRefused between within
-answered s h = rw h
-
-stood : (s : Star) (p : Place) → starRefused s ≡ false → place evening s here ≡ Placed.At p → placeIn tonight s ≡ p
-unfolding place
-stood s p h e =
-    let q : Placed.At (placeIn tonight s) ≡ Placed.At p =
-    sym (ap (λ i. placeAt i s here) evening-is ∙ answered s h ∙ ap (λ n. Placed.At (placeIn n s)) night-is) ∙ e in
-    cc
-
 -- ---- what the file and the line come to
 
 file-counts : listCount sampleFile ≡ Listed.Count 2
@@ -100,17 +79,16 @@ line-asks = refl
 
 begins : (air : Air) → airAccepted air ≡ true → begun air sampleFile (firstLine sampleInput) ≡ Begun.For 2 tonight
 unfolding begun inAir begunOf begunFor begunIn
-begins air accepted = rw (file-counts, line-asks, night-tonight, accepted)
+begins air accepted = rw (file-counts, line-asks, made-ready, accepted)
 
 -- ---- the lines
 
--- the line of a star that is read, by its place
-line-is : (people : Bool) (air : Air) (index : ℕ) (s : Star) (p : Place) → listStar sampleFile index ≡ ListedStar.Of s
-    → starRefused s ≡ false → placeIn tonight s ≡ p
-    → answerLine people air sampleFile tonight index
-    ≡ lineIn people air index (record { star = s; mark = 0; place = p })
+-- the line of a star that is read, by its place as an entry
+line-is : (people : Bool) (air : Air) (index : ℕ) (s : Star) (p : Place) (e : Entry)
+    → listStar sampleFile index ≡ ListedStar.Of s → starRefused s ≡ false → placeIn tonight s ≡ p → entryOf s p ≡ e
+    → answerLine people air sampleFile tonight index ≡ lineIn people air index e
 unfolding answerLine starLine worked freshEntry
-line-is people air index s p e h f = rw (e, h, f)
+line-is people air index s p e i h f g = rw (i, h, f, g)
 
 first-star : listStar sampleFile 0 ≡ ListedStar.Of sirius
 unfolding listStar starAt starIn recordOf fileOf fileLength ofBytes bytesOf signedOf unsignedOf part unsignedAt signedAt
@@ -123,26 +101,44 @@ unfolding listStar starAt starIn recordOf fileOf fileLength ofBytes bytesOf sign
 second-star = rw file-counts
 
 abbrev pub siriusEntry : Entry
-siriusEntry = record { star = sirius; mark = 0; place = siriusPlace }
+siriusEntry = record {
+  star = sirius;
+  mark = 0;
+  angles = record {
+    ra = + 365681449792;
+    declination = − 60318875478;
+    azimuth = + 760999641899;
+    altitude = + 63789202431;
+  };
+}
 
 abbrev pub equinoxEntry : Entry
-equinoxEntry = record { star = equinox; mark = 0; place = equinoxPlace }
+equinoxEntry = record {
+  star = equinox;
+  mark = 0;
+  angles = record {
+    ra = + 1196121190;
+    declination = + 519770523;
+    azimuth = + 1098507906186;
+    altitude = − 91944707618;
+  };
+}
 
 -- all that is printed, by the two lines
 pub printed : (people : Bool) (air : Air) → airAccepted air ≡ true → places people air sampleFile sampleInput
     ≡ ended (headerIn air ∷ lineIn people air 0 siriusEntry ∷ lineIn people air 1 equinoxEntry ∷ [])
-unfolding places answerLines entryLines starRefused between within
+unfolding places answerLines entryLines starRefused between within entryOf markOf anglesOf hasAngle orNought
 printed people air accepted = rw (
   begins air accepted,
-  line-is people air 0 sirius siriusPlace first-star refl (stood sirius siriusPlace refl sirius-stands),
-  line-is people air 1 equinox equinoxPlace second-star refl (stood equinox equinoxPlace refl equinox-stands),
+  line-is people air 0 sirius siriusPlace siriusEntry first-star refl sirius-place refl,
+  line-is people air 1 equinox equinoxPlace equinoxEntry second-star refl equinox-place refl,
 )
 
 pub sample : places false Air.Unknown sampleFile sampleInput ≡ sampleOutput
-unfolding ended headerIn lineIn airAccepted entryLine plainAngles decimal decimalBefore
+unfolding ended headerIn lineIn airAccepted entryLine plainAngles two orDash decimal decimalBefore
 sample = printed false Air.Unknown refl
 
 pub sample-for-people : places true Air.Unknown sampleFile sampleInput ≡ peopleOutput
-unfolding ended headerIn lineIn airAccepted entryLine peopleAngles hours bearing elevation roundIn signOf sexagesimal
-    clock marked lastDigits rnd rndSize modulo decimal decimalBefore
+unfolding ended headerIn lineIn airAccepted entryLine peopleAngles equatorial horizontal orDash hours bearing
+    elevation roundIn signOf sexagesimal clock marked lastDigits rnd rndSize modulo decimal decimalBefore
 sample-for-people = printed true Air.Unknown refl

@@ -19,7 +19,7 @@ ghost use Rattle.answers.specs.Answers.{placedOut};
 // Given: a UTC date and time of day, UT1-UTC in ms; latitude and longitude (positive east) in µas;
 // right ascension and declination of J2000 in µas, their motions in µas a year: any numbers.
 // Returned: apparent right ascension and declination, azimuth (north through east) and altitude in
-// µas; or refusal 1 to 6.
+// µas, each of right ascension and azimuth with a flag: 0 where there is none; or refusal 1 to 6.
 // Rule: docs/RULES.md, "Turns, readings, place".
 #[no_mangle]
 pub extern "C" fn turbelicus_place(

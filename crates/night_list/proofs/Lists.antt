@@ -1,4 +1,4 @@
--- What the walk of `night_list` needs of lists: how many are worked, and how many of a list are marked 0.
+-- What the walk of `night_list` needs of lists: how many are worked, and how many of a list are filled.
 use mathlib.Core.Path.{_≡_, refl, sym, ap}
 use mathlib.Core.Bool.{Bool, true, false, cond}
 use mathlib.Core.List.{List, [], _∷_, _++_, map}
@@ -6,9 +6,8 @@ use Prim.Native.Nat.{ℕ, _+_, _<_, _≤_, _^_}
 use native.Mathlib.Omega.{arith}
 use lib.ListN.{length, take, drop, length-append, length-map, length-drop}
 use lib.Seq.{length-take-le}
-use lib.Dec.{eqb}
 use Rattle.rules.specs.declared.Entry.{Entry}
-use Rattle.rules.specs.NightList.{marked}
+use Rattle.rules.specs.NightList.{filled, marked}
 
 -- ps and the rest of a mapped list are as many as the list
 pub as-many : {X Y : Type 0} (f : X → Y) (ps : List Y) (zs xs : List X) → ps ++ map f zs ≡ map f xs
@@ -21,7 +20,7 @@ pub worked-length : {X : Type 0} (f : X → X) (k : ℕ) (xs : List X) → k ≤
 worked-length f k xs l = simp (length-append, length-map, length-drop, length-take-le) (omega arith)
 
 abbrev pub markedOne : Entry → ℕ
-markedOne e = cond (eqb (e .mark) 0) 1 0
+markedOne e = cond (filled e) 1 0
 
 one-le : (t : Bool) → cond t 1 0 ≤ 1
 one-le true = omega arith
@@ -30,7 +29,7 @@ one-le false = omega arith
 pub marked-le : (es : List Entry) → marked es ≤ length es
 unfolding marked
 marked-le [] = omega arith
-marked-le (e ∷ es) = omega (arith, one-le (eqb (e .mark) 0), marked-le es)
+marked-le (e ∷ es) = omega (arith, one-le (filled e), marked-le es)
 
 pub marked-none : 0 ≡ marked []
 unfolding marked
@@ -43,7 +42,7 @@ marked-more (p ∷ ps) y = omega (arith, marked-more ps y)
 
 -- one more is counted, and the tally fits its word
 pub tally-fits : (ps : List Entry) (y : Entry) → marked ps < 2 ^ 62 → marked (ps ++ (y ∷ [])) < 2 ^ 64
-tally-fits ps y small = omega (arith, sym (marked-more ps y), one-le (eqb (y .mark) 0))
+tally-fits ps y small = omega (arith, sym (marked-more ps y), one-le (filled y))
 
 pub none-fits : marked [] < 2 ^ 64
 none-fits = omega (arith, marked-none)

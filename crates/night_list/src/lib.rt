@@ -13,10 +13,10 @@ ghost use Rattle.rules.specs.NightList.{nightList, entriesAfterNight};
 
 // A night list, worked where it stands.
 //
-// Given: moment and site, any; entries, any number, of which mark and place are not looked at.
-// Returned: how many entries are marked 0. Each entry keeps its star and has mark 0 and its place,
-// or mark 5 and four noughts where its star is refused. Or refusal 1 to 4, 6 or 11, and all entries
-// stay.
+// Given: moment and site, any; entries, any number, of which mark and angles are not looked at.
+// Returned: how many entries are marked 0 or 1. Each entry keeps its star and has mark 0 and four
+// angles; or mark 1, with nought for right ascension or azimuth where it has none; or mark 5 and
+// four noughts where its star is refused. Or refusal 1 to 4, 6 or 11, and all entries stay.
 // Rule: docs/RULES.md, "Lists".
 //
 // The night is worked once. A refusal is a plan with nothing to do, so no test stands beside the

@@ -24,7 +24,7 @@ unfoldable pub entryAfter : Prepared → Entry → Entry
 entryAfter (Prepared.Refused r) e = e
 entryAfter (Prepared.For n) e = worked n e
 
--- the answer, where n entries are marked 0
+-- the answer, where n entries are filled
 unfoldable pub answered : Prepared → ℕ → ℕ → Listed
 answered (Prepared.Refused r) count n = Listed.Refused r
 answered (Prepared.For night) count n = cond (ltb mostRecords count) (Listed.Refused Refusal.Room) (Listed.Count n)

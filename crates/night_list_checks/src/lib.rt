@@ -1,7 +1,11 @@
 // The night list but for its walk: the checks before, an entry worked by its value, the answer.
 
+use marks::is_filled;
+use marks::mark_of;
+use marks::or_nought;
 use night::night_of;
 use place::place_in;
+use rules::Angles;
 use rules::Entry;
 use rules::Listed;
 use rules::Moment;
@@ -15,7 +19,6 @@ use stars::star_refused;
 use units::MOST_RECORDS;
 ghost use mathlib.Core.Path.{_≡_};
 ghost use mathlib.Core.Bool.{cond};
-ghost use lib.Dec.{eqb};
 ghost use lib.IntN.{pos, natAbs, _+ℤ_};
 ghost use lib.Signed.{_≤ℤ_};
 ghost use Prim.Native.Nat.{_<_, _^_};
@@ -69,8 +72,8 @@ pub fn entry_after(plan: NightPlan, entry: Entry) -> Entry
 // A star of a night as an entry.
 //
 // Given: night, as `night::night_of` gives it; star, any.
-// Returned: the star with mark 0 and its place; or, where it is refused, with mark 5 and noughts.
-// Rule: docs/RULES.md, "Lists": mark 0 and four angles, or mark 5 and four noughts.
+// Returned: the star with its mark and angles; or, where it is refused, with mark 5 and noughts.
+// Rule: docs/RULES.md, "Lists": mark 0 or 1 and four angles, or mark 5 and four noughts.
 fn worked(night: Night, star: Star) -> Entry
     requires { ⌜ NightFits night ⌝ }
     ensures { λ r. ⌜ r ≡ nights.worked night (freshEntry star) ⌝ }
@@ -79,7 +82,7 @@ fn worked(night: Night, star: Star) -> Entry
         return Entry {
             star: star,
             mark: 5,
-            place: Place {
+            angles: Angles {
                 ra: 0,
                 declination: 0,
                 azimuth: 0,
@@ -87,23 +90,36 @@ fn worked(night: Night, star: Star) -> Entry
             },
         };
     }
+    entry_of(star, place_in(night, star))
+}
+
+// A star and its place as an entry: nought in the angle that has none.
+fn entry_of(star: Star, place: Place) -> Entry
+    ensures { λ r. ⌜ r ≡ nights.entryOf star place ⌝ }
+{
+    let ra = place.ra;
+    let azimuth = place.azimuth;
     Entry {
         star: star,
-        mark: 0,
-        place: place_in(night, star),
+        mark: mark_of(ra, azimuth),
+        angles: Angles {
+            ra: or_nought(ra),
+            declination: place.declination,
+            azimuth: or_nought(azimuth),
+            altitude: place.altitude,
+        },
     }
 }
 
-// One more where the entry is marked 0.
+// One more where the entry is filled: marked 0 or 1.
 pub fn tally(n: i64, entry: Entry) -> i64
     requires { ⌜ natAbs n < 2 ^ 62 ⌝ }
-    ensures { λ r. ⌜ r ≡ n +ℤ pos (cond (eqb (entry .mark) 0) 1 0) ⌝ }
+    ensures { λ r. ⌜ r ≡ n +ℤ pos (cond (nights.filled entry) 1 0) ⌝ }
 {
-    let mark = entry.mark;
-    if mark == 0 { n + 1 } else { n }
+    if is_filled(entry) { n + 1 } else { n }
 }
 
-// What a list answers: its refusal, or how many entries are marked 0.
+// What a list answers: its refusal, or how many entries are marked 0 or 1.
 pub fn answer(plan: NightPlan, n: i64) -> Listed
     requires { ⌜ pos 0 ≤ℤ n ⌝ }
     ensures { λ r. ⌜ r ≡ answerOf plan (natAbs n) ⌝ }

@@ -19,8 +19,8 @@ ghost use Rattle.steps.specs.Given.{StarFits};
 // The place of a star at a moment and a site.
 //
 // Given: moment (UTC, UT1-UTC in ms), star, site: any.
-// Returned: apparent right ascension and declination, azimuth and altitude in µas; refusals 1 to 4,
-// 5, 6.
+// Returned: apparent right ascension and declination, azimuth and altitude in µas, of which right
+// ascension and azimuth may have no angle; refusals 1 to 4, 5, 6.
 // Rule: docs/RULES.md, "Turns, readings, place", steps 1 to 6.
 pub fn place(moment: Moment, star: Star, site: Site) -> Placed
     ensures { λ r. ⌜ r ≡ rule.place moment star site ⌝ }
@@ -35,7 +35,8 @@ pub fn place(moment: Moment, star: Star, site: Site) -> Placed
 // The place of a star in a night.
 //
 // Given: n, as `night_of` gives it; s, not refused.
-// Returned: apparent right ascension and declination, azimuth and altitude in µas.
+// Returned: apparent right ascension and declination, azimuth and altitude in µas, of which right
+// ascension and azimuth may have no angle.
 // Rule: docs/RULES.md, "Turns, readings, place", steps 1 to 6.
 pub fn place_in(n: Night, s: Star) -> Place
     requires { ⌜ StarFits n s ⌝ }

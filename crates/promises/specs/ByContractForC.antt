@@ -11,6 +11,7 @@ use contract.Monad.{Fun}
 use denote.Ref.{now}
 use denote.Triple.Clauses.{Clauses}
 use Rattle.rules.specs.Answers.{placedAnswer, angleAnswer, observedAnswer, turnedAnswer, listedAnswer, listedStarAnswer}
+use Rattle.rules.specs.Answers.{readAnswer}
 use Rattle.rules.specs.Turning.{turned}
 use Rattle.rules.specs.Reading.{reading}
 use Rattle.rules.specs.Place.{place}
@@ -20,7 +21,7 @@ use Rattle.rules.specs.ListWriting.{numbersWritten, roomAfterNumbers}
 use Rattle.stars.specs.Numbers.{starOf}
 use Rattle.answers.specs.Given.{momentOf, siteOf, directionOf, weatherOf, takenByKind}
 use Rattle.answers.specs.Answers.{weatheredOut, altitudeOut, observedOut}
-use Rattle.answers.specs.Answers.{placedOut, turnedOut, countedOut, starredOut, writtenOut}
+use Rattle.answers.specs.Answers.{placedOut, turnedOut, readOut, countedOut, starredOut, writtenOut}
 use Rattle.promises.specs.Contracts.{Tells}
 use Rattle.module.proofs.places.turbelicus_place as turbelicus-place
 use Rattle.module.proofs.turns.turbelicus_turn as turbelicus-turn
@@ -58,7 +59,7 @@ module _ {M : Type 1} (𝓤 : URA M) (H : Heap 𝓤) (A : Atoms 𝓤) (mem : Mem
 
   -- h, v
   pub turbelicus-reading-answers : Tells 𝓤 turbelicus-reading.ended (turbelicus-reading.clauses 𝓤 H A mem run)
-      (λ κs passed a x. a ≡ reading (passed .0) (passed .1 .0))
+      (λ κs passed a x. a ≡ readOut (readAnswer (reading (passed .0) (passed .1 .0))))
   turbelicus-reading-answers κs passed g a x = id⊢ 𝓤 _
 
   -- the record's four numbers; kind, reading

@@ -16,6 +16,7 @@ use Rattle.rules.specs.declared.Moment.{Moment}
 use Rattle.rules.specs.declared.Star.{Star}
 use Rattle.rules.specs.declared.Site.{Site}
 use Rattle.rules.specs.declared.Term.{Term}
+use Rattle.rules.specs.declared.Read.{Read}
 use Rattle.rules.specs.declared.Place.{Place}
 use Rattle.rules.specs.declared.Placed.{Placed}
 use Rattle.rules.specs.Units.{circle, quarter, century, unit}
@@ -107,25 +108,29 @@ sine-within-4 a = pair-near a .sine
 
 -- ---- readings
 
--- of every reading but that of (0, 0)
-pub reading-across : (h v : ℤ) → 0 < natAbs h + natAbs v
-    → natAbs (pair (reading h v) .cosine *ℤ v -ℤ pair (reading h v) .sine *ℤ h) ≤ 8 * (natAbs h + natAbs v)
-reading-across h v k = reading-reads h v k .across
+-- of every reading that has an angle
+pub reading-across : (h v a : ℤ) → reading h v ≡ Read.Angle a
+    → natAbs (pair a .cosine *ℤ v -ℤ pair a .sine *ℤ h) ≤ 8 * (natAbs h + natAbs v)
+reading-across h v a e = reading-reads h v a e .across
 
-pub reading-along : (h v : ℤ) → 0 < natAbs h + natAbs v
-    → pos 0 <ℤ (pair (reading h v) .cosine *ℤ h +ℤ pair (reading h v) .sine *ℤ v)
-reading-along h v k = reading-reads h v k .along
+pub reading-along : (h v a : ℤ) → reading h v ≡ Read.Angle a → pos 0 <ℤ (pair a .cosine *ℤ h +ℤ pair a .sine *ℤ v)
+reading-along h v a e = reading-reads h v a e .along
 
 -- ---- places
 
--- right ascension and azimuth are 0 to C − 1, declination and altitude between minus and plus a quarter
+-- from 0 to C − 1
+abbrev pub OnCircle : ℤ → Type 0
+OnCircle a = (pos 0 ≤ℤ a) × (a <ℤ pos circle)
+
+-- right ascension and azimuth, where there is one, are 0 to C − 1, declination and altitude between minus and plus a
+-- quarter
 pub record PlaceInRange (p : Place) : Type 0 where
-  pub ra : (pos 0 ≤ℤ p .ra) × (p .ra <ℤ pos circle)
+  pub ra : (a : ℤ) → p .ra ≡ Read.Angle a → OnCircle a
   pub declination : natAbs (p .declination) ≤ quarter
-  pub azimuth : (pos 0 ≤ℤ p .azimuth) × (p .azimuth <ℤ pos circle)
+  pub azimuth : (a : ℤ) → p .azimuth ≡ Read.Angle a → OnCircle a
   pub altitude : natAbs (p .altitude) ≤ quarter
 
-on-circle : (a : ℤ) → UpTo a (circle - 1) → (pos 0 ≤ℤ a) × (a <ℤ pos circle)
+on-circle : (a : ℤ) → UpTo a (circle - 1) → OnCircle a
 on-circle (pos n) h = (leZ-yes (le→leb 0 n (omega arith)), ltZ-yes (le→leb (suc n) circle (omega (arith, h .high))))
 on-circle (negsuc n) h = absurd (omega (arith, h .low))
 
@@ -135,8 +140,8 @@ pub place-in-range : (m : Moment) (star : Star) (site : Site) (p : Place) → pl
 place-in-range m star site p e =
     let g = place-ranges m star site p e in
     record {
-      ra = on-circle (p .ra) (g .ra);
+      ra = λ a i. on-circle a (g .ra a i);
       declination = g .declination;
-      azimuth = on-circle (p .azimuth) (g .azimuth);
+      azimuth = λ a i. on-circle a (g .azimuth a i);
       altitude = g .altitude;
     }

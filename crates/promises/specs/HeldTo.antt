@@ -12,24 +12,24 @@ use Rattle.rules.specs.declared.Entry.{Entry}
 use Rattle.rules.specs.declared.Turned.{Turned}
 use Rattle.rules.specs.declared.Placed.{Placed}
 use Rattle.rules.specs.declared.Listed.{Listed}
+use Rattle.rules.specs.Answers.{hasAngle, orNought}
 use Rattle.rules.specs.Units.{quarter, unit, +_, −_, same, between, within}
 use Rattle.rules.specs.Rounding.{rndSize, rnd, modulo}
-use Rattle.rules.specs.Years.{leap, months, sum, upFrom, years}
-use Rattle.rules.specs.Calendar.{daysBefore2000, dayCount, dayNumber, yearRefused, monthDays, dayRefused}
-use Rattle.rules.specs.Dates.{taiMinusUtc, beforeStep, lastSecond, timeRefused, ut1MinusUtcRefused, instants}
 use Rattle.rules.specs.Length.{rootFrom, root, square, pairSquares, squares, partTo, pairToLength, toLength}
 use Rattle.rules.specs.Length.{lengthRefused, broughtToLength}
 use Rattle.rules.specs.Circle.{radianParts, squareParts, stage, stages, rawSine, rawCosine, pairOfParts, pairToHalf}
 use Rattle.rules.specs.Circle.{exchangedPair, pairToQuarter, inQuarter, folded, pair}
 use Rattle.rules.specs.Turning.{turn3, exchanged, turn1, turn2, turnAbout, directionRefused, turnRefused, turned}
 use Rattle.rules.specs.Chain.{Turn, turnedBy}
-use Rattle.rules.specs.Night.{siteRefused, nightAt, nightOf}
 use Rattle.rules.specs.Stars.{starRefused}
 use Rattle.rules.specs.Place.{place}
 use Rattle.rules.specs.ListReading.{noughts}
-use Rattle.rules.specs.NightList.{worked, marked, listRefused, listedIn, nightList, workedIn, entriesAfterNight}
-use Rattle.laws.specs.SampleNight.{evening, here}
-use Rattle.laws.specs.SamplePlace.{sirius, equinox, siriusPlace, equinoxPlace, sirius-stands, equinox-stands}
+use Rattle.rules.specs.NightList.{markOf, entryOf, worked, filled, marked, listRefused, listedIn, nightList, workedIn}
+use Rattle.rules.specs.NightList.{entriesAfterNight}
+use Rattle.laws.specs.SampleNight.{evening, here, made-ready}
+use Rattle.laws.specs.SamplePlace.{sirius, equinox, siriusPlace, equinoxPlace, sirius-place, sirius-stands}
+use Rattle.laws.specs.SamplePlace.{equinox-stands}
+use Rattle.laws.specs.SampleNoAngle.{poleStar, pole-place}
 
 -- ---- "Refusing everything, or one fixed place for all stars, breaks demand 2"
 
@@ -41,13 +41,13 @@ two-places = (sirius-stands, equinox-stands)
 -- so no answer, be it a place or a refusal, is that of every star that is accepted
 pub no-answer-for-all : (a : Placed) → ((s : Star) → starRefused s ≡ false → place evening s here ≡ a)
     → ⊥
-unfolding starRefused between within
+unfolding starRefused between within orNought
 no-answer-for-all a all =
     let same-place = sym (two-places .0) ∙ all sirius refl ∙ sym (all equinox refl) ∙ two-places .1 in
     omega (arith, ap (λ p. natAbs (raOf p)) same-place)
   where
     raOf : Placed → ℤ
-    raOf (Placed.At p) = p .ra
+    raOf (Placed.At p) = orNought (p .ra)
     raOf (Placed.Refused r) = pos 0
 
 -- ---- "Leaving the direction as it came .. Turning once and copying afterwards breaks the same definition"
@@ -71,22 +71,22 @@ quarter-turns = (refl, refl)
 
 -- ---- "A night list that marks nothing, or gives an invented count, breaks the Lists section"
 
--- an entry that has another mark than 0 and 5
-abbrev entryOf : Star → Entry
-entryOf s = record { star = s; mark = 7; place = noughts }
+-- an entry that has a mark that no list gives
+abbrev unworked : Star → Entry
+unworked s = record { star = s; mark = 7; angles = noughts }
 
--- of a star that is accepted, and of one whose right ascension is below nought
-abbrev twoEntries : List Entry
-twoEntries = entryOf sirius
-    ∷ entryOf (record { ra = − 1; declination = + 0; «ra_motion» = + 0; «declination_motion» = + 0 })
+-- of a star that is accepted, of one whose right ascension is below nought, and of one that stands at the pole
+abbrev threeEntries : List Entry
+threeEntries = unworked sirius
+    ∷ unworked (record { ra = − 1; declination = + 0; «ra_motion» = + 0; «declination_motion» = + 0 })
+    ∷ unworked poleStar
     ∷ []
 
-abbrev markOf : Entry → ℕ
-markOf e = e .mark
+abbrev marks : List Entry → List ℕ
+marks es = map (λ (e : Entry). e .mark) es
 
-pub one-of-two : (nightList evening here twoEntries ≡ Listed.Count 1)
-    × (map markOf (entriesAfterNight evening here twoEntries) ≡ 0 ∷ 5 ∷ [])
-unfolding nightList listedIn marked worked listRefused workedIn entriesAfterNight nightOf nightAt instants
-    same between within leap months sum upFrom years daysBefore2000 dayCount dayNumber yearRefused monthDays
-    dayRefused taiMinusUtc beforeStep lastSecond timeRefused ut1MinusUtcRefused starRefused siteRefused
-one-of-two = (refl, refl)
+pub two-of-three : (nightList evening here threeEntries ≡ Listed.Count 2)
+    × (marks (entriesAfterNight evening here threeEntries) ≡ 0 ∷ 5 ∷ 1 ∷ [])
+unfolding nightList listedIn marked filled worked entryOf markOf hasAngle listRefused workedIn entriesAfterNight
+    starRefused between within
+two-of-three = (rw (made-ready, sirius-place, pole-place), rw (made-ready, sirius-place, pole-place))

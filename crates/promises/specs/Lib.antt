@@ -8,6 +8,8 @@ pub mod Demand1
 pub mod Demand2
 pub mod Demand2Answers
 pub mod Demand2OfFunctions
+pub mod NoAngle
+pub mod NoAngleOfFunctions
 pub mod Refraction
 pub mod RefractionAnswers
 pub mod RefractionOfFunctions

@@ -8,6 +8,7 @@ pub mod Series
 pub mod Circle
 pub mod Arcs
 pub mod Reading
+pub mod Marks
 pub mod Axes
 pub mod Turning
 pub mod Calendar

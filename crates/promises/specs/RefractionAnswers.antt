@@ -16,13 +16,14 @@ use Rattle.rules.specs.declared.Placed.{Placed}
 use Rattle.rules.specs.declared.Observed.{Observed}
 use Rattle.rules.specs.declared.Weathered.{Weathered}
 use Rattle.rules.specs.Refusals.{given, refused}
-use Rattle.rules.specs.Answers.{angleAnswer, observedAnswer}
+use Rattle.rules.specs.Answers.{angleAnswer, placeNumbers, observedAnswer}
 use Rattle.rules.specs.Units.{quarter, +_}
 use Rattle.rules.specs.Weather.{recorded}
 use Rattle.rules.specs.Place as places
 use Rattle.rules.specs.Refraction.{observed, observedIn, observedAltitude, observedAt, observedBeside, observedPlace}
 use Rattle.laws.specs.RefusalNumbers.{number-pos}
 use Rattle.answers.specs.declared.observed.TurbelicusObserved.{TurbelicusObserved}
+use Rattle.laws.specs.Refusals.{readOf, read-again}
 use Rattle.answers.specs.Answers.{altitudeOut, observedOut}
 use Rattle.promises.specs.Demand1.Weather.{place-untouched}
 use Rattle.promises.specs.Demand2 as demand2
@@ -99,7 +100,16 @@ beside-observes (Placed.At q) w p h e = at (observedAltitude w (q .altitude)) re
 
 -- the place in the struct that C gets
 abbrev pub placeSeen : TurbelicusObserved → Place
-placeSeen a = record { ra = a .ra; declination = a .declination; azimuth = a .azimuth; altitude = a .altitude }
+placeSeen a = record {
+  ra = readOf (a .«has_ra») (a .ra);
+  declination = a .declination;
+  azimuth = readOf (a .«has_azimuth») (a .azimuth);
+  altitude = a .altitude;
+}
+
+seen-again : (p : Place) (h : ℤ) → placeSeen (observedOut (observedAnswer (Observed.At p h))) ≡ p
+unfolding observedOut observedAnswer placeNumbers given
+seen-again p h = rw (read-again (p .ra), read-again (p .azimuth))
 
 -- that of q, in its ranges, with the observed altitude beside it
 pub record PlaceObserved (q : Placed) (a : TurbelicusObserved) : Type 0 where
@@ -115,7 +125,7 @@ place-beside m star site w b e = e
 pub got-place : (m : Moment) (star : Star) (site : Site) (w : Weather)
     → let a = observedOut (observedAnswer (observedPlace m star site w)) in
     a .refused ≡ pos 0 → PlaceObserved (places.place m star site) a
-unfolding observedOut observedAnswer given refused
+unfolding observedOut observedAnswer placeNumbers given refused
 got-place m star site w = by (observedPlace m star site w) refl
   where
     by : (b : Observed) → observedPlace m star site w ≡ b → observedOut (observedAnswer b) .refused ≡ pos 0
@@ -124,8 +134,8 @@ got-place m star site w = by (observedPlace m star site w) refl
         let own = place-untouched m star site w p h e in
         let beside = place-beside m star site w (Observed.At p h) e in
         record {
-          own = own;
-          in-range = demand2.place-in-range m star site p own;
+          own = own ∙ ap Placed.At (sym (seen-again p h));
+          in-range = subst demand2.PlaceInRange (sym (seen-again p h)) (demand2.place-in-range m star site p own);
           observes = observes w (p .altitude) h (beside-observes (places.place m star site) w p h beside);
         }
     by (Observed.Refused r) e k = absurd (omega (arith, number-pos r, ap natAbs k))

@@ -59,7 +59,7 @@ module _ {M : Type 1} (𝓤 : URA M) (H : Heap 𝓤) (A : Atoms 𝓤) (mem : Mem
       so-told 𝓤 (answers-for-c.turbelicus-observed-altitude-answers 𝓤 H A mem run κs passed g a x)
       (λ e. rw e (got-observes _ (passed .0)))
 
-  -- the first four numbers are a place in its ranges, that of the same star, and the fifth observes the fourth
+  -- the place in its ranges, that of the same star, and what observes its altitude
   pub turbelicus-observed-place-observes : Tells 𝓤 turbelicus-observed-place.ended
       (turbelicus-observed-place.clauses 𝓤 H A mem run)
       (λ κs date a x.

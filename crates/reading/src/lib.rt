@@ -2,6 +2,7 @@
 // Angles are in µas, all else in parts of 2^30.
 
 use rules::Direction;
+use rules::Read;
 ghost use mathlib.Core.Path.{_≡_};
 ghost use Rattle.rules.specs.Length.{squares};
 ghost use Rattle.rules.specs.Turning.{Accepted};
@@ -13,17 +14,17 @@ mod octants;
 // The angle of (h, v), from the first axis towards the second.
 //
 // Given: h, v, any.
-// Returned: the angle in µas, from 0 to C - 1; 0 for (0, 0).
+// Returned: the angle in µas, from 0 to C - 1; or that there is none, for (0, 0).
 // Rule: docs/RULES.md, "Turns, readings, place".
-pub fn reading(h: i32, v: i32) -> i64
+pub fn reading(h: i32, v: i32) -> Read
     ensures { λ r. ⌜ r ≡ readings.reading h v ⌝ }
 {
     let first = h as i64;
     let second = v as i64;
     if first == 0 && second == 0 {
-        return 0;
+        return Read::NoAngle;
     }
-    octants::reading_of(first, second)
+    Read::Angle(octants::angle_of(first, second))
 }
 
 // The height of a direction above the plane of its first two axes: a declination or an altitude.

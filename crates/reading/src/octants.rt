@@ -62,10 +62,10 @@ fn by_signs(h: i64, v: i64, a: i64) -> i64
     a
 }
 
-// The reading of (h, v), not both nought.
-pub fn reading_of(h: i64, v: i64) -> i64
+// The angle of (h, v), not both nought.
+pub fn angle_of(h: i64, v: i64) -> i64
     requires { ⌜ ReadingGiven h v ⌝ }
-    ensures { λ r. ⌜ r ≡ rule.reading h v ⌝ }
+    ensures { λ r. ⌜ r ≡ rule.angleOf h v ⌝ }
 {
     let m = whole::size_of(h);
     let n = whole::size_of(v);
@@ -78,6 +78,6 @@ pub fn height_of(x: i64, y: i64, z: i64) -> i64
     requires { ⌜ HeightGiven (record { x = x; y = y; z = z }) ⌝ }
     ensures { λ r. ⌜ r ≡ height (record { x = x; y = y; z = z }) ⌝ }
 {
-    let a = reading_of(roots::whole_root(x * x + y * y), z);
+    let a = angle_of(roots::whole_root(x * x + y * y), z);
     if HALF < a { a - CIRCLE } else { a }
 }

@@ -1,8 +1,10 @@
 -- docs/RULES.md, "Refusal numbers": the number and values of each answer. Definitions only.
 use Prim.Native.Nat.{ℕ}
+use mathlib.Core.Bool.{Bool, true, false, cond}
 use mathlib.Core.List.{List, [], _∷_, _++_}
 use lib.IntN.{ℤ, pos}
-use Rattle.rules.specs.Data.{Pair, Moment, Numbered, Dated, Instants, Line, Angle, Precessed, FiveArguments, Nutated}
+use Rattle.rules.specs.Data.{Pair, Read, Place}
+use Rattle.rules.specs.Data.{Moment, Numbered, Dated, Instants, Line, Angle, Precessed, FiveArguments, Nutated}
 use Rattle.rules.specs.Data.{Turned, Prepared, Placed, Observed, Listed, ListedStar}
 use Rattle.rules.specs.Data.{Weather, Weathered, Refusal}
 use Rattle.rules.specs.Refusals.{number, Answer, given, refused, otherForm}
@@ -56,15 +58,38 @@ unfoldable pub turnedAnswer : Turned → Answer
 turnedAnswer (Turned.To v) = given (v .x ∷ v .y ∷ v .z ∷ [])
 turnedAnswer (Turned.Refused r) = refused r 3
 
--- right ascension, declination, azimuth, altitude
-unfoldable pub placedAnswer : Placed → Answer
-placedAnswer (Placed.At p) = given (p .ra ∷ p .declination ∷ p .azimuth ∷ p .altitude ∷ [])
-placedAnswer (Placed.Refused r) = refused r 4
+-- 02, C-12: "there is no angle"
+unfoldable pub hasAngle : Read → Bool
+hasAngle (Read.Angle a) = true
+hasAngle Read.NoAngle = false
 
--- right ascension, declination, azimuth, altitude, observed altitude
+-- 02, C-12: "nought in the angle that has none"
+unfoldable pub orNought : Read → ℤ
+orNought (Read.Angle a) = a
+orNought Read.NoAngle = pos 0
+
+-- beside an angle: 1 where there is one
+unfoldable pub flag : Read → ℤ
+flag a = cond (hasAngle a) (pos 1) (pos 0)
+
+-- flag and angle
+unfoldable pub readAnswer : Read → Answer
+readAnswer a = given (flag a ∷ orNought a ∷ [])
+
+-- right ascension with its flag, declination, azimuth with its flag, altitude; then what stands beside the place
+unfoldable pub placeNumbers : Place → List ℤ → List ℤ
+placeNumbers p beside =
+    flag (p .ra) ∷ orNought (p .ra) ∷ p .declination
+    ∷ flag (p .azimuth) ∷ orNought (p .azimuth) ∷ p .altitude ∷ beside
+
+unfoldable pub placedAnswer : Placed → Answer
+placedAnswer (Placed.At p) = given (placeNumbers p [])
+placedAnswer (Placed.Refused r) = refused r 6
+
+-- the place, and the observed altitude
 unfoldable pub observedAnswer : Observed → Answer
-observedAnswer (Observed.At p a) = given (p .ra ∷ p .declination ∷ p .azimuth ∷ p .altitude ∷ a ∷ [])
-observedAnswer (Observed.Refused r) = refused r 5
+observedAnswer (Observed.At p a) = given (placeNumbers p (a ∷ []))
+observedAnswer (Observed.Refused r) = refused r 7
 
 -- 0 or 14; the record's floats are no whole numbers, so it stands beside its number
 unfoldable pub weatheredNumber : Weathered → ℕ

@@ -5,7 +5,7 @@ use mathlib.Core.List.{List, _++_, map}
 use lib.ListN.{length, drop}
 use lib.Dec.{eqb, leb, ltb}
 use lib.IntN.{pos}
-use Rattle.rules.specs.Data.{Star, Place, Entry, Refusal, Listed, ListedStar}
+use Rattle.rules.specs.Data.{Star, Angles, Entry, Refusal, Listed, ListedStar}
 use Rattle.rules.specs.Bytes.{part, unsignedAt, sameBytes}
 use Rattle.rules.specs.ListFile.{mark, headLength, mostRecords, countIn, fileLength, starIn, stars, anyRefused}
 
@@ -36,12 +36,12 @@ readInto (Listed.Count count) room = cond (ltb room count) (Listed.Refused Refus
 unfoldable pub listRead : List ℕ → List Entry → Listed
 listRead file entries = readInto (listCount file) (length entries)
 
-abbrev pub noughts : Place
+abbrev pub noughts : Angles
 noughts = record { ra = pos 0; declination = pos 0; azimuth = pos 0; altitude = pos 0 }
 
 -- "Entries read get mark 0 and four noughts"
 unfoldable pub freshEntry : Star → Entry
-freshEntry s = record { star = s; mark = 0; place = noughts }
+freshEntry s = record { star = s; mark = 0; angles = noughts }
 
 -- what an answer leaves in lent memory: the new where it is a count, the old where it is a refusal
 unfoldable pub leaving {ℓ} : {A : Type ℓ} → Listed → A → A → A

@@ -4,6 +4,7 @@
 use rules::Direction;
 use rules::Night;
 use rules::Place;
+use rules::Read;
 use rules::Star;
 use rules::Tt;
 use units::CIRCLE;
@@ -135,7 +136,7 @@ pub fn readings(v: Direction, w: Direction) -> Place
 }
 
 // The reading of two parts of an accepted direction, which 32 bits hold.
-fn read(h: i64, v: i64) -> i64
+fn read(h: i64, v: i64) -> Read
     requires { ⌜ PartsFit h v ⌝ }
     ensures { λ r. ⌜ r ≡ readings.reading h v ⌝ }
 {

@@ -13,13 +13,20 @@ use crate::compare::words;
 use crate::entries::{bytes_of_entries, entries_of};
 use crate::function::Call;
 
-pub fn place(given: [i64; 14]) -> [i64; 5] {
+pub fn place(given: [i64; 14]) -> [i64; 6] {
     let (moment, site, star) = asked_of(given);
-    words(place::place(moment, site, star).map(|place| angles(place).to_vec()))
+    words(place::place(moment, site, star).map(|place| [&angles(place)[..], &[flags(place)]].concat()))
 }
 
+/// Nought for an angle that there is not.
 fn angles(place: Place) -> [Whole; 4] {
-    [place.right_ascension, place.declination, place.azimuth, place.altitude]
+    let Place { right_ascension, declination, azimuth, altitude } = place;
+    [right_ascension.unwrap_or(0), declination, azimuth.unwrap_or(0), altitude]
+}
+
+/// Whether there is a right ascension, and whether an azimuth.
+fn flags(place: Place) -> Whole {
+    both(place.right_ascension.is_some().into(), place.azimuth.is_some().into()).into()
 }
 
 fn asked_of(given: [i64; 14]) -> (Moment, Site, Star) {
@@ -79,15 +86,15 @@ pub fn observed_altitude([altitude, record @ ..]: [i64; 5]) -> [i64; 2] {
 
 pub fn observed_place(
     [asked @ .., pressure, temperature, has_pressure, has_temperature]: [i64; 18],
-) -> [i64; 6] {
+) -> [i64; 7] {
     let (moment, site, star) = asked_of(asked);
     let weather = weather_of([pressure, temperature, has_pressure, has_temperature]);
     let observed = weather::observed_place(moment, site, star, weather);
-    words(observed.map(|(place, altitude)| [&angles(place)[..], &[altitude]].concat()))
+    words(observed.map(|(place, altitude)| [&angles(place)[..], &[altitude, flags(place)]].concat()))
 }
 
 /// Two parts of 32 bits are one word, the first its lower half.
-fn both(low: i64, high: i64) -> i64 {
+pub fn both(low: i64, high: i64) -> i64 {
     low & 0xffff_ffff | high << 32
 }
 
@@ -97,9 +104,10 @@ pub fn turn(given: [i64; 5]) -> [i64; 4] {
     words(turned.map(|turned| vec![turned.x, turned.y, turned.z]))
 }
 
-pub fn angle([h, v]: [i64; 2]) -> [i64; 1] {
+/// The angle and whether there is one, or two noughts.
+pub fn angle([h, v]: [i64; 2]) -> [i64; 2] {
     let angle = reading::reading(h.into(), v.into());
-    [i64::try_from(angle).expect("an answer of 64 bits")]
+    [i64::try_from(angle.unwrap_or(0)).expect("an answer of 64 bits"), angle.is_some().into()]
 }
 
 pub fn list_count(call: &mut Call<0>) -> [i64; 2] {

@@ -33,8 +33,8 @@ exported! {
 
 #[cfg(exported = "reading")]
 exported! {
-    /// The angle of (h, v).
-    READING = turbelicus_reading(h: i32, v: i32) -> (angle);
+    /// The angle of (h, v), and whether there is one.
+    READING = turbelicus_reading(h: i32, v: i32) -> (angle, has_angle);
 }
 
 #[cfg(exported = "dates")]
@@ -103,7 +103,7 @@ exported! {
         year: i32, month: i32, day: i32, hour: i32, minute: i32, second: i32, ms: i32, ut1_minus_utc: i32,
         latitude: i64, longitude: i64,
         ra: i64, declination: i64, ra_motion: i32, declination_motion: i32
-    ) -> (refused, ra, declination, azimuth, altitude);
+    ) -> (refused, ra, declination, azimuth, altitude, has_ra_and_has_azimuth);
 }
 
 #[cfg(exported = "weather")]
@@ -122,7 +122,7 @@ exported! {
         latitude: i64, longitude: i64,
         ra: i64, declination: i64, ra_motion: i32, declination_motion: i32,
         pressure: f32, temperature: f32, has_pressure: i32, has_temperature: i32
-    ) -> (refused, ra, declination, azimuth, altitude, observed_altitude);
+    ) -> (refused, ra, declination, azimuth, altitude, observed_altitude, has_ra_and_has_azimuth);
 }
 
 /// The number of records of a list file.

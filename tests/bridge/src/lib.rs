@@ -17,4 +17,5 @@ pub mod floats;
 pub mod function;
 pub mod ranges;
 pub mod records;
+pub mod samples;
 pub mod steps;

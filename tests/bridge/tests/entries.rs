@@ -169,7 +169,7 @@ fn there_and_back() {
         assert_eq!(WRITE_LIST.answers(&mut written), [[0, file_length(count) as i64]]);
         let mut read = [reading(&mut chance, written[0].room.clone(), count)];
         assert_eq!(READ_LIST.answers(&mut read), [[0, count as i64]]);
-        let fresh = |given: &Entry| Entry { star: given.star, mark: 0, place: FOUR_NOUGHTS };
+        let fresh = |given: &Entry| Entry { star: given.star, mark: 0, angles: FOUR_NOUGHTS };
         assert_eq!(entries_of(&read[0].room), given.iter().map(fresh).collect::<Vec<_>>());
     }
     print("files there and back: 65, lists there and back: 65");

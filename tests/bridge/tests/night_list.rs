@@ -5,13 +5,14 @@
 use bridge::beside::night_list;
 use bridge::chance::Chance;
 use bridge::compare::compare_lent;
-use bridge::entries::{bytes_of_entries, entries, entry};
+use bridge::entries::{bytes_of_entries, entries, entries_of, entry};
 use bridge::face::NIGHT_LIST;
 use bridge::files::{count, refused_stars, star};
 use bridge::function::Call;
 use bridge::ranges::RANGES;
-use second::star_list::{Entry, MOST_ENTRIES};
-use second::units::QUARTER;
+use bridge::samples::{AT_POLE, NEITHER, SAMPLES, ZENITH};
+use second::star_list::{Angles, Entry, MOST_ENTRIES};
+use second::units::{Whole, QUARTER};
 
 const RANDOM: usize = 2_000;
 
@@ -89,6 +90,71 @@ fn several_stars_refused() {
         list(given(&mut chance), &entries)
     });
     compare_lent(&NIGHT_LIST, "every choice of refused stars among 5, and all of 64", lists, night_list);
+}
+
+/// The entries of a list that was worked, and what was answered.
+fn worked(given: [i64; 10], entries: &[Entry]) -> (Vec<Entry>, [i64; 2]) {
+    let mut lists = [list(given, entries)];
+    let answers = NIGHT_LIST.answers(&mut lists);
+    (entries_of(&lists[0].room), answers[0])
+}
+
+/// Document 02: "mark 1, with nought in the angle that has none; such an entry still counts as filled".
+#[test]
+fn one_star_lacking_an_angle() {
+    let mut chance = Chance::new("one_star_lacking_an_angle");
+    for sample in SAMPLES {
+        let (entries, answer) = worked(sample.night(), &[entry(&mut chance, sample.star())]);
+        assert_eq!((entries[0].mark, answer), (1, [0, 1]), "{sample:?}");
+        let Angles { right_ascension, declination, azimuth, altitude } = entries[0].angles;
+        let [has_ra, has_azimuth] = sample.has;
+        for (has, angle, height) in [(has_ra, right_ascension, declination), (has_azimuth, azimuth, altitude)]
+        {
+            assert_eq!(has == 0, height.abs() == QUARTER, "{sample:?}");
+            assert!(has == 1 || angle == 0, "{sample:?}");
+        }
+    }
+    let lists = SAMPLES.map(|sample| list(sample.night(), &[entry(&mut chance, sample.star())]));
+    compare_lent(&NIGHT_LIST, "one star lacking an angle", lists, night_list);
+
+    let lists = SAMPLES.iter().flat_map(|sample| {
+        let band: Vec<Entry> = sample.band().map(|star| entry(&mut chance, star.star())).collect();
+        band.chunks(MOST_ENTRIES).map(|entries| list(sample.night(), entries)).collect::<Vec<_>>()
+    });
+    let lists: Vec<_> = lists.collect();
+    compare_lent(&NIGHT_LIST, "stars about the axes", lists, night_list);
+}
+
+/// Marks 0, 1 and 5 in one list, and the count of those that are filled.
+#[test]
+fn every_mark() {
+    let mut chance = Chance::new("every_mark");
+    let ordinary = [0; 4];
+    let stars = [ordinary, ZENITH.star(), refused_stars()[0], AT_POLE.star(), ZENITH.star(), ordinary];
+    let given = stars.map(|star| entry(&mut chance, star));
+    // the star at the pole of date is there for every latitude
+    let (entries, answer) = worked(ZENITH.night(), &given);
+    let marks = |entries: &[Entry]| entries.iter().map(|entry| entry.mark).collect::<Vec<Whole>>();
+    assert_eq!((marks(&entries), answer), (vec![0, 1, 5, 1, 1, 0], [0, 5]));
+    let (entries, answer) = worked(NEITHER.night(), &given);
+    assert_eq!((marks(&entries), answer), (vec![0, 0, 5, 1, 0, 0], [0, 5]));
+
+    // every choice of an ordinary star, the two that lack one angle each, and a refused one, in a list of five
+    let kinds = [ordinary, ZENITH.star(), AT_POLE.star(), refused_stars()[0]];
+    let lists = (0..1 << 10).map(|choice: usize| {
+        let entries: Vec<Entry> =
+            (0..5).map(|at| entry(&mut chance, kinds[choice >> (2 * at) & 3])).collect();
+        list(ZENITH.night(), &entries)
+    });
+    let lists: Vec<_> = lists.collect();
+    compare_lent(&NIGHT_LIST, "every choice of marks 0, 1 and 5 among 5", lists, night_list);
+
+    // none but stars of one kind, in the longest list
+    let lists = kinds.map(|star| {
+        let entries: Vec<Entry> = (0..MOST_ENTRIES).map(|_| entry(&mut chance, star)).collect();
+        list(ZENITH.night(), &entries)
+    });
+    compare_lent(&NIGHT_LIST, "64 of each mark", lists, night_list);
 }
 
 /// "A night list is checked 1 to 4, 6, 11": every choice of these six faults, so every two of them; a star that is refused

@@ -8,7 +8,9 @@ use bridge::face::{OBSERVED_ALTITUDE, OBSERVED_PLACE, PLACE};
 use bridge::floats::{word, PRESSURES};
 use bridge::function::Call;
 use bridge::ranges::{GOOD, RANGES};
-use bridge::records::{accepted_record, asked_in, at, come, record, Record, HIGHEST, LOWEST, PAST_QUARTER};
+use bridge::records::{accepted_record, asked_in, at, come, record, weathers};
+use bridge::records::{Record, HIGHEST, LOWEST, PAST_QUARTER};
+use bridge::samples::{Sample, HAS_BOTH, SAMPLES, ZENITH};
 use second::dates::{instants, Date, Moment};
 use second::place::local_sidereal;
 use second::refusals::{DAY, READING, SITE, STAR, TIME, UT1_MINUS_UTC, YEAR};
@@ -32,7 +34,7 @@ fn at_altitude(chance: &mut Chance, altitude: i64) -> Option<[i64; 14]> {
     let mut asked = RANGES.map(|(low, high)| chance.within(low, high));
     // no month is shorter
     asked[2] = asked[2].min(28);
-    let [_, ra, declination, _, _] = place(asked);
+    let [_, ra, declination, ..] = place(asked);
     let latitude = declination + chance.one_of(&[-1, 1]) * (HIGHEST - altitude);
     let [year, month, day, hour, minute, second, ms, ut1_minus_utc] =
         std::array::from_fn(|part| Whole::from(asked[part]));
@@ -52,7 +54,7 @@ fn places_at_every_edge() {
         let asked = (0..RANDOM_AT_AN_EDGE).filter_map(|_| at_altitude(&mut chance, altitude));
         let asked: Vec<[i64; 14]> = asked.collect();
         for near in &asked {
-            let [_, _, _, _, found] = place(*near);
+            let [_, _, _, _, found, _] = place(*near);
             assert!((found - altitude).abs() < 10_000, "{near:?} is at {found}, not at {altitude}");
         }
         let calls = asked.into_iter().map(|asked| asked_in(asked, accepted_record(&mut chance)));
@@ -60,13 +62,14 @@ fn places_at_every_edge() {
     }
 }
 
-/// Its first four numbers are those of the place, the fifth is the observed altitude of the fourth; 14 comes only where the
-/// place is not refused.
+/// Its first four numbers and its flags are those of the place, the fifth is the observed altitude of the fourth; 14
+/// comes only where the place is not refused.
 #[test]
 fn place_and_observed_altitude() {
     let mut chance = Chance::new("place_and_observed_altitude");
     let mut draw = || (RANGES.map(|(low, high)| chance.within(low, high)), record(&mut chance));
-    let drawn: Vec<([i64; 14], Record)> = (0..RANDOM).map(|_| draw()).collect();
+    let mut drawn: Vec<([i64; 14], Record)> = (0..RANDOM).map(|_| draw()).collect();
+    drawn.extend(SAMPLES.map(|sample| (sample.asked(), record(&mut chance))));
     let mut calls: Vec<Call<14>> = drawn.iter().map(|(asked, _)| (*asked).into()).collect();
     let placed = PLACE.answers(&mut calls);
     let seen = placed.iter().zip(&drawn).map(|(placed, (_, record))| at(placed[4], *record));
@@ -75,13 +78,31 @@ fn place_and_observed_altitude() {
     let mut calls: Vec<Call<18>> =
         drawn.iter().map(|(asked, record)| asked_in(*asked, *record).into()).collect();
     for (number, observed) in OBSERVED_PLACE.answers(&mut calls).into_iter().enumerate() {
-        let [refused, ra, declination, azimuth, altitude] = placed[number];
+        let [refused, ra, declination, azimuth, altitude, flags] = placed[number];
         let expected = match (refused, seen[number]) {
-            (0, [0, seen]) => [0, ra, declination, azimuth, altitude, seen],
-            (0, [refused, _]) | (refused, _) => [refused, 0, 0, 0, 0, 0],
+            (0, [0, seen]) => [0, ra, declination, azimuth, altitude, seen, flags],
+            (0, [refused, _]) | (refused, _) => [refused, 0, 0, 0, 0, 0, 0],
         };
         assert_eq!(observed, expected, "{:?}", calls[number].given);
     }
+}
+
+/// Stars at a pole of date, at the zenith and at the nadir, and the stars about them, in every weather.
+#[test]
+fn lacking_an_angle() {
+    let observed =
+        |sample: Sample| weathers().into_iter().map(move |record| asked_in(sample.asked(), record));
+    let calls: Vec<[i64; 18]> = SAMPLES.into_iter().flat_map(observed).collect();
+    let lacking = calls.iter().map(|call| observed_place(*call)[6]);
+    assert!(lacking.into_iter().all(|flags| flags != HAS_BOTH));
+    compare(&OBSERVED_PLACE, "lacking an angle", calls, observed_place);
+
+    let band: Vec<[i64; 18]> =
+        ZENITH.band().map(|star| asked_in(star.asked(), come(1013.25, -10.25))).collect();
+    for flags in [ZENITH.flags(), HAS_BOTH] {
+        assert!(band.iter().any(|call| observed_place(*call)[6] == flags), "none of {flags:x}");
+    }
+    compare(&OBSERVED_PLACE, "about the zenith", band, observed_place);
 }
 
 /// Each refusal alone, every two together and all other choices of them: the lowest number is given, 14 last.
@@ -107,7 +128,7 @@ fn order_of_refusals() {
     let answers = OBSERVED_PLACE.answers(&mut calls);
     for (choice, answer) in answers.iter().enumerate() {
         if let Some(lowest) = chosen(choice).map(|(_, (refusal, _, _))| *refusal).min() {
-            assert_eq!(*answer, [lowest, 0, 0, 0, 0, 0], "{:?}", calls[choice].given);
+            assert_eq!(*answer, [lowest, 0, 0, 0, 0, 0, 0], "{:?}", calls[choice].given);
         }
     }
     assert_eq!(answers[0][0], 0);

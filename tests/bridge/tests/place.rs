@@ -5,8 +5,11 @@ use bridge::beside::place;
 use bridge::chance::Chance;
 use bridge::compare::compare;
 use bridge::face::PLACE;
+use bridge::function::Call;
 use bridge::ranges::{GOOD, RANGES};
+use bridge::samples::{Sample, HAS_BOTH, SAMPLES};
 use bridge::steps::about_every_step;
+use second::units::QUARTER;
 
 const RANDOM: usize = 205_000;
 const RANDOM_ABOUT_A_STEP: usize = 400;
@@ -88,6 +91,34 @@ fn order_of_refusals() {
         std::array::from_fn(part)
     });
     compare(&PLACE, "every choice of bad parts", calls, place);
+}
+
+/// Stars at a pole of date, at the zenith and at the nadir: a flag and a nought for each angle that is lacking.
+#[test]
+fn lacking_an_angle() {
+    let mut calls: Vec<Call<14>> = SAMPLES.iter().map(|sample| sample.asked().into()).collect();
+    for (sample, answer) in SAMPLES.iter().zip(PLACE.answers(&mut calls)) {
+        let [refused, ra, declination, azimuth, altitude, flags] = answer;
+        assert_eq!((refused, flags), (0, sample.flags()), "{sample:?}");
+        for (has, angle, height) in [(sample.has[0], ra, declination), (sample.has[1], azimuth, altitude)] {
+            assert_eq!(has == 0, i128::from(height.abs()) == QUARTER, "{sample:?}");
+            assert!(has == 1 || angle == 0, "{sample:?}");
+        }
+    }
+    compare(&PLACE, "lacking an angle", SAMPLES.map(Sample::asked), place);
+}
+
+/// The stars about each of them: some lack what it lacks, and some lack nothing.
+#[test]
+fn about_the_axes() {
+    for sample in SAMPLES {
+        let band: Vec<[i64; 14]> = sample.band().map(Sample::asked).collect();
+        for flags in [sample.flags(), HAS_BOTH] {
+            assert!(band.iter().any(|asked| place(*asked)[5] == flags), "none of {flags:x} about {sample:?}");
+        }
+        let what = format!("about {} {} over {}", sample.ra, sample.declination, sample.latitude);
+        compare(&PLACE, &what, band, place);
+    }
 }
 
 /// One star over one site through a day, every ten seconds.

@@ -6,6 +6,7 @@ use bridge::chance::{around, Chance};
 use bridge::compare::{compare, print};
 use bridge::face::READING;
 use second::circle::pair;
+use second::units::{CIRCLE, HALF_CIRCLE, QUARTER};
 
 const RANDOM: usize = 1_000_000;
 const LEAST: i64 = i32::MIN as i64;
@@ -38,6 +39,28 @@ fn small_and_end_pairs() {
     compare(&READING, "ends", ends, angle);
 }
 
+/// Document 02: "Reading an angle from (0, 0) shall answer that there is no angle"; a pair with one nought has one.
+#[test]
+fn no_angle() {
+    let sizes = [1, 2, 300, 1 << 16, 1 << 30, MOST - 1, MOST];
+    let along = sizes.iter().flat_map(|size| [*size, -size]).chain([LEAST]);
+    let axes: Vec<[i64; 2]> = along.flat_map(|part| [[part, 0], [0, part]]).collect();
+    let mut calls: Vec<_> = [[0, 0]].into_iter().chain(axes).map(Into::into).collect();
+    let answers = READING.answers(&mut calls);
+    assert_eq!(answers[0], [0, 0]);
+    for (call, [angle, has_angle]) in calls.iter().zip(answers).skip(1) {
+        let expected = match call.given {
+            [h, _] if h > 0 => 0,
+            [_, v] if v > 0 => QUARTER,
+            [h, _] if h < 0 => HALF_CIRCLE,
+            _ => CIRCLE - QUARTER,
+        };
+        assert_eq!((angle.into(), has_angle), (expected, 1), "{:?}", call.given);
+    }
+    let given: Vec<[i64; 2]> = calls.iter().map(|call| call.given).collect();
+    compare(&READING, "both noughts, and one", given, angle);
+}
+
 #[test]
 fn formula_switch() {
     let mut chance = Chance::new("formula_switch");
@@ -60,8 +83,9 @@ fn promises() {
     let given = (0..RANDOM).map(|_| any_pair(&mut chance));
     let mut calls: Vec<_> = given.filter(|given| *given != [0, 0]).map(Into::into).collect();
     let (mut worst, mut worst_given) = (0.0, [0, 0]);
-    for (index, [angle]) in READING.answers(&mut calls).into_iter().enumerate() {
+    for (index, [angle, has_angle]) in READING.answers(&mut calls).into_iter().enumerate() {
         let [h, v] = calls[index].given.map(i128::from);
+        assert_eq!(has_angle, 1, "({h}, {v}) has an angle");
         let pair = pair(angle.into());
         let aside = (pair.cosine * v - pair.sine * h).abs();
         let sizes = h.abs() + v.abs();

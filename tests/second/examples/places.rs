@@ -5,7 +5,7 @@
 use std::io::BufRead;
 
 use second::dates::{moment_of_line, Moment};
-use second::place::{Place, Site, Star};
+use second::place::{place, Place, Site, Star};
 use second::refusals::{self, unless, Refusal};
 use second::rounding::rnd;
 use second::star_list::{night_list, read, Entry, FOUR_NOUGHTS, MOST_ENTRIES};
@@ -61,13 +61,13 @@ fn tenths(word: &str) -> Option<Whole> {
     Some(if size == word { tenths } else { -tenths })
 }
 
-/// An entry, and its observed altitude.
-type Seen = (Entry, Whole);
+/// The mark of an entry, its place, and its observed altitude.
+type Seen = (Whole, Place, Whole);
 
 /// The file first, then the form of the line, then date and site, then the air.
 fn answer(file: &[u8], line: &[u8], air: Air) -> Result<Vec<Seen>, Refusal> {
     let star = Star { right_ascension: 0, declination: 0, motion_right_ascension: 0, motion_declination: 0 };
-    let mut entries = vec![Entry { star, mark: 0, place: FOUR_NOUGHTS }; MOST_ENTRIES];
+    let mut entries = vec![Entry { star, mark: 0, angles: FOUR_NOUGHTS }; MOST_ENTRIES];
     let count = read(file, &mut entries)?;
     entries.truncate(count);
     let (moment, site) = asked(line).ok_or(0)?;
@@ -76,18 +76,17 @@ fn answer(file: &[u8], line: &[u8], air: Air) -> Result<Vec<Seen>, Refusal> {
         let accepted = (5000..=11_000).contains(&pressure) && (-500..=500).contains(&temperature);
         unless(accepted, refusals::READING)?;
     }
-    Ok(entries.into_iter().map(|entry| (entry, observed(&entry, air))).collect())
+    // no star of a file is refused: each has a place
+    let seen = |entry: &Entry| {
+        let place = place(moment, site, entry.star)?;
+        Ok((entry.mark, place, observed(place.altitude, air)))
+    };
+    entries.iter().map(seen).collect()
 }
 
-/// Of an entry with mark 0 its altitude and the lift, of any other 0.
-fn observed(entry: &Entry, air: Air) -> Whole {
-    match (entry.mark, air) {
-        (0, Some([pressure, temperature])) => {
-            let altitude = entry.place.altitude;
-            altitude + lift_at(pressure, temperature, altitude)
-        }
-        _ => 0,
-    }
+/// The altitude and its lift, or 0 where no air is given.
+fn observed(altitude: Whole, air: Air) -> Whole {
+    air.map_or(0, |[pressure, temperature]| altitude + lift_at(pressure, temperature, altitude))
 }
 
 /// A line of `times`, a space, the latitude, a space, the longitude.
@@ -109,16 +108,21 @@ fn angle(word: &[u8]) -> Option<Whole> {
 
 fn print(entries: &[Seen], people: bool, observed: bool) {
     println!("entry mark ra dec az alt{}", if observed { " obs" } else { "" });
-    for (index, (Entry { mark, place, .. }, height)) in entries.iter().enumerate() {
+    for (index, (mark, place, height)) in entries.iter().enumerate() {
         let Place { right_ascension, declination, azimuth, altitude } = *place;
-        let angles = if people {
-            [hours(right_ascension), signed(declination), degrees(azimuth), signed(altitude), signed(*height)]
-        } else {
-            [right_ascension, declination, azimuth, altitude, *height].map(|angle| angle.to_string())
-        };
+        let [around_pole, around_zenith, up]: [fn(Whole) -> String; 3] =
+            if people { [hours, degrees, signed] } else { [microarcseconds; 3] };
+        // a dash for an angle that there is not
+        let or_none = |angle: Option<Whole>, form: fn(Whole) -> String| angle.map_or(String::from("-"), form);
+        let (ra, azimuth) = (or_none(right_ascension, around_pole), or_none(azimuth, around_zenith));
+        let angles = [ra, up(declination), azimuth, up(altitude), up(*height)];
         let columns = if observed { 5 } else { 4 };
         println!("{index} {mark} {}", angles[..columns].join(" "));
     }
+}
+
+fn microarcseconds(angle: Whole) -> String {
+    angle.to_string()
 }
 
 /// `hh:mm:ss.ss`, 24 h as 0 h.

@@ -1,4 +1,5 @@
-//! Document 01, "Turns, readings, place": the place of a star, in six steps.
+//! Document 01, "Turns, readings, place": the place of a star, in six steps; amended by document 02, "Say so when there
+//! is no azimuth".
 
 use crate::circle::pair;
 use crate::dates::{instants, Moment, Tt, Ut};
@@ -26,12 +27,13 @@ pub struct Site {
     pub longitude: Whole,
 }
 
-/// The four angles of a place.
+/// The place. It shall carry on that there is no angle, for right ascension and azimuth alike, as a kind of its own and
+/// not as a number.
 #[derive(Clone, Copy, Debug, PartialEq, Eq)]
 pub struct Place {
-    pub right_ascension: Whole,
+    pub right_ascension: Option<Whole>,
     pub declination: Whole,
-    pub azimuth: Whole,
+    pub azimuth: Option<Whole>,
     pub altitude: Whole,
 }
 

@@ -1,16 +1,18 @@
-//! Document 01, "Turns, readings, place": reading an angle from (h, v), and heights.
+//! Document 01, "Turns, readings, place": reading an angle from (h, v), and heights; amended by document 02, "Say so
+//! when there is no azimuth".
 
 use crate::rounding::{rnd, root};
 use crate::turning::Direction;
 use crate::units::{Whole, CIRCLE, HALF_CIRCLE, HALF_CIRCLE_PARTS, HALF_QUARTER, QUARTER, UNIT};
 
-/// The angle of (h, v), two signed 32-bit numbers; (0, 0) reads 0.
-pub fn reading(h: Whole, v: Whole) -> Whole {
+/// The angle of (h, v), two signed 32-bit numbers, where there is one.
+pub fn reading(h: Whole, v: Whole) -> Option<Whole> {
     for part in [h, v] {
         assert!(i32::try_from(part).is_ok(), "reading of ({h}, {v})");
     }
+    // Reading an angle from (0, 0) shall answer that there is no angle.
     if (h, v) == (0, 0) {
-        return 0;
+        return None;
     }
     let in_octant = octant_angle(h.abs().min(v.abs()), h.abs().max(v.abs()));
     // If |v| > |h| take quarter minus that.
@@ -23,11 +25,7 @@ pub fn reading(h: Whole, v: Whole) -> Whole {
         (true, false) => CIRCLE - in_quarter,
     };
     // C reads as 0.
-    if placed == CIRCLE {
-        0
-    } else {
-        placed
-    }
+    Some(if placed == CIRCLE { 0 } else { placed })
 }
 
 /// The angle below half a quarter whose tangent is smaller / larger.
@@ -58,7 +56,7 @@ fn arc(u: Whole) -> Whole {
 /// Heights and declinations read (downward root of x²+y², z) and are given between minus and plus a quarter.
 pub fn height(direction: Direction) -> Whole {
     let Direction { x, y, z } = direction;
-    let angle = reading(root(x * x + y * y), z);
+    let angle = reading(root(x * x + y * y), z).expect("no direction is of three noughts");
     if angle > HALF_CIRCLE {
         angle - CIRCLE
     } else {

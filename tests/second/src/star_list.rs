@@ -1,16 +1,26 @@
-//! Document 01, "Lists": the star list file read and written, and the night list.
+//! Document 01, "Lists": the star list file read and written, and the night list; amended by document 02, "Say so when
+//! there is no azimuth".
 
 use crate::dates::{instants, Moment};
 use crate::place::{check_site, check_star, place, Place, Site, Star};
 use crate::refusals::{self, unless, Refusal};
 use crate::units::Whole;
 
+/// The four angles of an entry, numbers all of them: its mark tells whether one has nought for none.
+#[derive(Clone, Copy, Debug, PartialEq, Eq)]
+pub struct Angles {
+    pub right_ascension: Whole,
+    pub declination: Whole,
+    pub azimuth: Whole,
+    pub altitude: Whole,
+}
+
 /// An entry of a list: a star, a mark and four angles.
 #[derive(Clone, Copy, Debug, PartialEq, Eq)]
 pub struct Entry {
     pub star: Star,
     pub mark: Whole,
-    pub place: Place,
+    pub angles: Angles,
 }
 
 pub const MOST_ENTRIES: usize = 64;
@@ -21,7 +31,7 @@ pub const HEAD: usize = 7;
 /// RA and declination (64, signed), two motions (32, signed).
 pub const RECORD: usize = 24;
 
-pub const FOUR_NOUGHTS: Place = Place { right_ascension: 0, declination: 0, azimuth: 0, altitude: 0 };
+pub const FOUR_NOUGHTS: Angles = Angles { right_ascension: 0, declination: 0, azimuth: 0, altitude: 0 };
 
 /// A file is 7 + 24 × count bytes.
 pub fn file_length(count: usize) -> usize {
@@ -52,7 +62,7 @@ pub fn read(file: &[u8], room: &mut [Entry]) -> Result<usize, Refusal> {
     unless(count <= room.len(), refusals::ROOM)?;
     // Entries read get mark 0 and four noughts; entries past the count stay.
     for (entry, star) in room.iter_mut().zip(stars) {
-        *entry = Entry { star, mark: 0, place: FOUR_NOUGHTS };
+        *entry = Entry { star, mark: 0, angles: FOUR_NOUGHTS };
     }
     Ok(count)
 }
@@ -116,17 +126,26 @@ pub fn record_of(star: Star) -> Vec<u8> {
     .concat()
 }
 
-/// Works a night list where it stands and counts the entries marked 0, or refuses it whole by 1 to 4, 6, 11.
+/// Works a night list where it stands and counts its filled entries, or refuses it whole by 1 to 4, 6, 11.
 pub fn night_list(moment: Moment, site: Site, entries: &mut [Entry]) -> Result<usize, Refusal> {
     instants(moment)?;
     check_site(site)?;
     unless(entries.len() <= MOST_ENTRIES, refusals::ROOM)?;
     for entry in entries.iter_mut() {
         // Each entry keeps its star and receives mark 0 and four angles, or mark 5 and four noughts.
-        (entry.mark, entry.place) = match place(moment, site, entry.star) {
-            Ok(place) => (0, place),
+        (entry.mark, entry.angles) = match place(moment, site, entry.star) {
+            Ok(place) => marked(place),
             Err(refusal) => (refusal.into(), FOUR_NOUGHTS),
         };
     }
-    Ok(entries.iter().filter(|entry| entry.mark == 0).count())
+    // The answer counts the entries marked 0; one with mark 1 still counts as filled.
+    Ok(entries.iter().filter(|entry| [0, 1].contains(&entry.mark)).count())
+}
+
+/// The night list marks it too: mark 1, with nought in the angle that has none.
+fn marked(place: Place) -> (Whole, Angles) {
+    let Place { right_ascension, declination, azimuth, altitude } = place;
+    let mark = if right_ascension.is_some() && azimuth.is_some() { 0 } else { 1 };
+    let (right_ascension, azimuth) = (right_ascension.unwrap_or(0), azimuth.unwrap_or(0));
+    (mark, Angles { right_ascension, declination, azimuth, altitude })
 }

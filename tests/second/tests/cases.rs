@@ -3,11 +3,11 @@
 use second::circle::{pair, parts_of_radian, Pair};
 use second::dates::{date_of, day_of, instants, times, Date, Moment, Tt, Ut};
 use second::earth::{obliquity, precession, sidereal, Precession};
-use second::place::{check_star, Place, Site, Star};
+use second::place::{check_star, Site, Star};
 use second::reading::reading;
 use second::refusals::{COUNT, DAY, MARK, ROOM, STAR, TURN, YEAR};
 use second::rounding::rnd;
-use second::star_list::{file_length, night_list, read, write, Entry, FOUR_NOUGHTS};
+use second::star_list::{file_length, night_list, read, write, Angles, Entry, FOUR_NOUGHTS};
 use second::turning::{turn, Direction};
 use second::units::{Whole, CENTURY, CIRCLE, HALF_QUARTER, QUARTER, UNIT};
 
@@ -23,7 +23,7 @@ const STAR_OF_CASES: Star =
 const ENTRY: Entry = Entry {
     star: STAR_OF_CASES,
     mark: 9,
-    place: Place { right_ascension: 9, declination: 9, azimuth: 9, altitude: 9 },
+    angles: Angles { right_ascension: 9, declination: 9, azimuth: 9, altitude: 9 },
 };
 
 #[test]
@@ -78,8 +78,8 @@ fn quarter_turn_about_axis_3() {
 
 #[test]
 fn readings() {
-    assert_eq!(reading(1, 1), 162_000_000_000);
-    assert_eq!(reading(0, 1), 324_000_000_000);
+    assert_eq!(reading(1, 1), Some(162_000_000_000));
+    assert_eq!(reading(0, 1), Some(324_000_000_000));
 }
 
 #[test]
@@ -119,7 +119,7 @@ fn list_file_there_and_back() {
 
     let mut room = [ENTRY; 3];
     assert_eq!(read(&bytes, &mut room), Ok(2));
-    let read_entry = Entry { mark: 0, place: FOUR_NOUGHTS, ..ENTRY };
+    let read_entry = Entry { mark: 0, angles: FOUR_NOUGHTS, ..ENTRY };
     assert_eq!(room, [read_entry, read_entry, ENTRY]);
 
     let mut again = vec![0; bytes.len()];

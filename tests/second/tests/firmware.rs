@@ -1,5 +1,5 @@
-//! What the firmware prints is stored in firmware/expected.txt, and in expected_weather.txt with the weather of weather.txt;
-//! here the second program says what it must be.
+//! What the firmware prints is stored in firmware/expected.txt, in expected_weather.txt with the weather of
+//! weather.txt, and in expected_zenith.txt of the list zenith.slt; here the second program says what it must be.
 
 use second::dates::moment_of_line;
 use second::place::Site;
@@ -11,13 +11,22 @@ use second::weather::{observed_place, Float, Reading, Weather, NO_WEATHER};
 const SITE: Site = Site { latitude: 180_316_000_000, longitude: 51_915_000_000 };
 const LOWEST: Whole = 36_000_000_000;
 
-/// The dates of its two runs in the gate.
+/// The dates of its three runs in the gate.
 const DATE: &[u8] = b"2026-03-20 20:00:00.000 0";
 const DATE_WITH_WEATHER: &[u8] = b"2026-03-20 21:14:30.000 0";
+const DATE_OF_ZENITH: &[u8] = b"2026-03-20 20:00:07.000 0";
 
 #[test]
 fn expected_is_what_the_second_program_answers() {
-    assert_eq!(printed(DATE, NO_WEATHER), stored("expected.txt"));
+    assert_eq!(printed("stars.slt", DATE, NO_WEATHER), stored("expected.txt"));
+}
+
+#[test]
+fn expected_at_the_zenith_is_what_the_second_program_answers() {
+    let printed = printed("zenith.slt", DATE_OF_ZENITH, NO_WEATHER);
+    assert_eq!(printed, stored("expected_zenith.txt"));
+    // none stands at azimuth 0 but the star that is in the north
+    assert!(printed.starts_with("0 stays 324000.000000\n1 0.000000 180315."));
 }
 
 #[test]
@@ -25,10 +34,11 @@ fn expected_with_weather_is_what_the_second_program_answers() {
     let weather = stored("weather.txt").lines().fold(NO_WEATHER, |weather, line| {
         weather.with(reading(line)).expect("the stored readings are accepted")
     });
-    let lifted = printed(DATE_WITH_WEATHER, weather);
+    let lifted = printed("stars.slt", DATE_WITH_WEATHER, weather);
     assert_eq!(lifted, stored("expected_weather.txt"));
     // the air lifts a star into the mount's reach
-    assert!(printed(DATE_WITH_WEATHER, NO_WEATHER).contains("below") && !lifted.contains("below"));
+    let true_places = printed("stars.slt", DATE_WITH_WEATHER, NO_WEATHER);
+    assert!(true_places.contains("below") && !lifted.contains("below"));
 }
 
 fn path(name: &str) -> String {
@@ -50,8 +60,8 @@ fn reading(line: &str) -> Reading {
     }
 }
 
-fn printed(date: &[u8], weather: Weather) -> String {
-    let file = std::fs::read(path("stars.slt")).expect("the list can be read");
+fn printed(list: &str, date: &[u8], weather: Weather) -> String {
+    let file = std::fs::read(path(list)).expect("the list can be read");
     let moment = moment_of_line(date).expect("a date");
     let mut printed = String::new();
     for (number, star) in stars(&file).expect("a list").into_iter().enumerate() {
@@ -59,7 +69,8 @@ fn printed(date: &[u8], weather: Weather) -> String {
         let target = if altitude < LOWEST {
             String::from("below")
         } else {
-            format!("{} {}", arcseconds(place.azimuth), arcseconds(altitude))
+            let azimuth = place.azimuth.map_or(String::from("stays"), arcseconds);
+            format!("{azimuth} {}", arcseconds(altitude))
         };
         printed += &format!("{number} {target}\n");
     }

@@ -91,7 +91,7 @@ fn meeus_apparent_place() {
     };
     let direction = apparent(star, Tt(of_mjd(62088.19))).unwrap();
     let published = from_hours(2.0, 46.0, 14.390);
-    assert_near(reading(direction.x, direction.y), published, 0.5 * ARCSECOND);
+    assert_near(reading(direction.x, direction.y).unwrap(), published, 0.5 * ARCSECOND);
     let published = from_degrees(49.0, 21.0, 7.45);
     assert_near(height(direction), published, 0.5 * ARCSECOND);
 }
@@ -113,7 +113,7 @@ fn meeus_horizontal_place() {
     let ours = horizontal(direction, angle, latitude).unwrap();
     let tolerance = 0.0001 * 3600.0 * ARCSECOND;
     let published = from_degrees(180.0 + 68.0337, 0.0, 0.0);
-    assert_near(reading(-ours.x, ours.y), published, tolerance);
+    assert_near(reading(-ours.x, ours.y).unwrap(), published, tolerance);
     assert_near(height(ours), from_degrees(15.1249, 0.0, 0.0), tolerance);
 }
 
@@ -163,7 +163,7 @@ fn floats_agree() {
         let ours = pair(angle);
         assert_near(ours.cosine, radians.cos() * UNIT as f64, 4.0);
         assert_near(ours.sine, radians.sin() * UNIT as f64, 4.0);
-        assert_near(reading(ours.cosine, ours.sine), angle as f64, 2_000.0);
+        assert_near(reading(ours.cosine, ours.sine).unwrap(), angle as f64, 2_000.0);
     }
 }
 

@@ -98,9 +98,9 @@ module _ (c : tie.After-put-people) where
   abbrev s3 : tie.Start
   s3 = start (a b3)
 
-  put-3 : Put (s3 .args .out .now) 0 (head s3 ++ peopleAngles (s3 .args .entry .place))
+  put-3 : Put (s3 .args .out .now) 0 (head s3 ++ peopleAngles (s3 .args .entry .angles))
       (c .put-people .last .1 .1 .0) (c .put-people .result)
-  put-3 = more (put-2 b3) (c .put-people .result) (peopleAngles (s3 .args .entry .place))
+  put-3 = more (put-2 b3) (c .put-people .result) (peopleAngles (s3 .args .entry .angles))
       (c .put-people .last .1 .1 .0) (c .put-people .ensures .1) (c .put-people .ensures .0)
 
 same-length : tie.Need-same-length
@@ -127,9 +127,9 @@ module _ (c : tie.After-put-plain) where
   abbrev s4 : tie.Start
   s4 = start (a b4)
 
-  put-4 : Put (s4 .args .out .now) 0 (head s4 ++ plainAngles (s4 .args .entry .place))
+  put-4 : Put (s4 .args .out .now) 0 (head s4 ++ plainAngles (s4 .args .entry .angles))
       (c .put-plain .last .1 .1 .0) (c .put-plain .result)
-  put-4 = more (put-2 b4) (c .put-plain .result) (plainAngles (s4 .args .entry .place)) (c .put-plain .last .1 .1 .0)
+  put-4 = more (put-2 b4) (c .put-plain .result) (plainAngles (s4 .args .entry .angles)) (c .put-plain .last .1 .1 .0)
       (c .put-plain .ensures .1) (c .put-plain .ensures .0)
 
 same-length-2 : tie.Need-same-length-2

@@ -1,5 +1,5 @@
 -- `night_list::night_list` meets its contract: a walk of its MIR, by hand. Its loop keeps an equation: what is worked,
--- and what is to come worked, are what the plan will have worked; the tally is how many of what is worked are marked 0.
+-- and what is to come worked, are what the plan will have worked; the tally is how many of what is worked are filled.
 -- the loop's state, and the equation
 mod Loop
 -- its locals and its callees

@@ -2,9 +2,6 @@
 use mathlib.Core.Path.{_≡_, sym, ap, _∙_}
 use mathlib.Core.Bool.{false}
 use borrow.Author.Needs.{needs}
-use Rattle.rules.specs.declared.Star.{Star}
-use Rattle.rules.specs.declared.Place.{Place}
-use Rattle.rules.specs.declared.Entry.{Entry}
 use Rattle.rules.specs.Stars.{starRefused}
 use Rattle.rules.specs.ListReading.{freshEntry}
 use Rattle.rules.specs.NightList as nights
@@ -24,15 +21,15 @@ accepted c = sym (c .before .star-refused .ensures) ∙ c .if1 .left
 place-in-requires : tie.Need-place-in-requires
 place-in-requires c κs = record { night = c .before .before .pre; star = accepted c }
 
-entry : Star → Place → Entry
-entry s p = record { star = s; mark = 0; place = p }
+entry-of-requires : tie.Need-entry-of-requires
+entry-of-requires c κs = search needs
 
 returns-2 : tie.Need-returns-2
 unfolding nights.worked freshEntry
 returns-2 c =
-    let s = c .before .before .before .args .star in
-    let in-range = accepted (c .before) in
-    simp in-range (ap (λ (p : Place). record { star = s; mark = 0; place = p }) (c .place-in .ensures))
+    let s = c .before .before .before .before .args .star in
+    let in-range = accepted (c .before .before) in
+    simp in-range (c .entry-of .ensures ∙ ap (nights.entryOf s) (c .before .place-in .ensures))
 
 pub worked-spec : {M : Type 1} → statement M
-worked-spec = tie.close (tie.spec star-refused-requires returns place-in-requires returns-2)
+worked-spec = tie.close (tie.spec star-refused-requires returns place-in-requires entry-of-requires returns-2)

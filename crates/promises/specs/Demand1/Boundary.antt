@@ -14,7 +14,7 @@ use Rattle.rules.specs.declared.Direction.{Direction}
 use Rattle.rules.specs.declared.Refusal.{Refusal}
 use Rattle.rules.specs.Checks.{first}
 use Rattle.rules.specs.Refusals.{number, given, refused}
-use Rattle.rules.specs.Answers.{placedAnswer, turnedAnswer, listedAnswer, listedStarAnswer}
+use Rattle.rules.specs.Answers.{orNought, flag, placedAnswer, turnedAnswer, listedAnswer, listedStarAnswer}
 use Rattle.rules.specs.Turning.{turn, turned}
 use Rattle.rules.specs.Place.{placeIn, place}
 use Rattle.rules.specs.ListFile.{countIn, fileLength}
@@ -37,15 +37,25 @@ use Rattle.promises.specs.Demand1.Writing.{row-answer}
 -- ---- turbelicus_place
 
 abbrev pub placeRefused : Refusal → TurbelicusPlaced
-placeRefused r = record { refused = pos (number r); ra = pos 0; declination = pos 0; azimuth = pos 0; altitude = pos 0 }
+placeRefused r = record {
+  refused = pos (number r);
+  ra = pos 0;
+  declination = pos 0;
+  azimuth = pos 0;
+  altitude = pos 0;
+  «has_ra» = pos 0;
+  «has_azimuth» = pos 0;
+}
 
 abbrev pub placeGiven : Place → TurbelicusPlaced
 placeGiven p = record {
   refused = pos 0;
-  ra = p .ra;
+  ra = orNought (p .ra);
   declination = p .declination;
-  azimuth = p .azimuth;
+  azimuth = orNought (p .azimuth);
   altitude = p .altitude;
+  «has_ra» = flag (p .ra);
+  «has_azimuth» = flag (p .azimuth);
 }
 
 turbelicus-place-checked : (m : Moment) (star : Star) (site : Site)
@@ -53,7 +63,7 @@ turbelicus-place-checked : (m : Moment) (star : Star) (site : Site)
     ≡ first (placeChecks m star site) placeRefused (placeGiven (placeIn (readyNight m site) star))
 unfolding placedOut given refused
 turbelicus-place-checked m star site = ap placedOut (place-answer m star site)
-    ∙ first-map placedOut (placeChecks m star site) (λ r. refused r 4) _
+    ∙ first-map placedOut (placeChecks m star site) (λ r. refused r 6) _
 
 pub turbelicus-place-refused : (m : Moment) (star : Star) (site : Site) (r : Refusal)
     → (placedOut (placedAnswer (place m star site)) ≡ placeRefused r) ↔ FirstGiven (placeChecks m star site) r

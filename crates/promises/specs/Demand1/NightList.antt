@@ -19,7 +19,9 @@ use Rattle.rules.specs.Answers.{listedAnswer}
 use Rattle.rules.specs.Stars.{starRefused}
 use Rattle.rules.specs.Place.{placeIn}
 use Rattle.rules.specs.ListReading.{noughts}
-use Rattle.rules.specs.NightList.{worked, marked, listedIn, nightList, workedIn, entriesAfterNight}
+use Rattle.rules.specs.NightList.{markOf, anglesOf, entryOf, worked, marked, listedIn, nightList, workedIn}
+use Rattle.rules.specs.NightList.{entriesAfterNight}
+use Rattle.laws.specs.Marks.{mark-below-2}
 use Rattle.laws.specs.Checks.{FirstGiven}
 use Rattle.laws.specs.Ranges.{true-not-false}
 use Rattle.promises.specs.Demand1.Checks.{nightChecks, nightListChecks}
@@ -70,17 +72,21 @@ night-list-kept m site entries r f =
 
 -- its star kept, mark 5 and four noughts
 abbrev pub refusedEntry : Entry → Entry
-refusedEntry e = record { star = e .star; mark = 5; place = noughts }
+refusedEntry e = record { star = e .star; mark = 5; angles = noughts }
 
--- its star kept, mark 0 and four angles
+-- its star kept, mark 0 or 1 and four angles, with nought in one that there is not
 abbrev pub placedEntry : Night → Entry → Entry
-placedEntry n e = record { star = e .star; mark = 0; place = placeIn n (e .star) }
+placedEntry n e =
+    let p = placeIn n (e .star) in
+    record { star = e .star; mark = markOf (p .ra) (p .azimuth); angles = anglesOf p }
 
 apart : {A : Type 0} (n : Night) (e : Entry) → refusedEntry e ≡ placedEntry n e → A
-apart n e w = absurd (omega (arith, ap (λ (a : Entry). a .mark) w))
+apart n e w =
+    let p = placeIn n (e .star) in
+    absurd (omega (arith, ap (λ (a : Entry). a .mark) w, mark-below-2 (p .ra) (p .azimuth)))
 
 pub entry-refused : (n : Night) (e : Entry) → (worked n e ≡ refusedEntry e) ↔ (starRefused (e .star) ≡ true)
-unfolding worked
+unfolding worked entryOf
 entry-refused n e = by (starRefused (e .star)) refl
   where
     by : (b : Bool) → starRefused (e .star) ≡ b
@@ -89,7 +95,7 @@ entry-refused n e = by (starRefused (e .star)) refl
     by false g = (λ w. apart n e (sym w), λ h. true-not-false (sym h ∙ g))
 
 pub entry-placed : (n : Night) (e : Entry) → (worked n e ≡ placedEntry n e) ↔ (starRefused (e .star) ≡ false)
-unfolding worked
+unfolding worked entryOf
 entry-placed n e = by (starRefused (e .star)) refl
   where
     by : (b : Bool) → starRefused (e .star) ≡ b

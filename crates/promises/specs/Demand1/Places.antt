@@ -16,7 +16,7 @@ use Rattle.rules.specs.declared.Prepared.{Prepared}
 use Rattle.rules.specs.declared.Placed.{Placed}
 use Rattle.rules.specs.Checks.{first}
 use Rattle.rules.specs.Refusals.{number, given, refused}
-use Rattle.rules.specs.Answers.{placedAnswer, preparedAnswer, parts}
+use Rattle.rules.specs.Answers.{orNought, flag, placeNumbers, placedAnswer, preparedAnswer, parts}
 use Rattle.rules.specs.Dates.{utOf, ttOf}
 use Rattle.rules.specs.Night.{night, nightAt, nightOf}
 use Rattle.rules.specs.Place.{placeIn, placeAt, place}
@@ -53,14 +53,16 @@ place-number m star site r e = number-to 6 (placeChecks m star site)
     (omega arith, (omega arith, (omega arith, (omega arith, (omega arith, (omega arith, tt)))))) r
     (place-refused m star site r .0 e)
 
--- right ascension, declination, azimuth, altitude
-abbrev pub fourAngles : Place → List ℤ
-fourAngles p = p .ra ∷ p .declination ∷ p .azimuth ∷ p .altitude ∷ []
+-- right ascension with its flag, declination, azimuth with its flag, altitude
+abbrev pub sixNumbers : Place → List ℤ
+sixNumbers p =
+    flag (p .ra) ∷ orNought (p .ra) ∷ p .declination
+    ∷ flag (p .azimuth) ∷ orNought (p .azimuth) ∷ p .altitude ∷ []
 
 pub place-answer : (m : Moment) (star : Star) (site : Site)
     → placedAnswer (place m star site)
-    ≡ first (placeChecks m star site) (λ r. refused r 4) (given (fourAngles (placeIn (readyNight m site) star)))
-unfolding placedAnswer
+    ≡ first (placeChecks m star site) (λ r. refused r 6) (given (sixNumbers (placeIn (readyNight m site) star)))
+unfolding placedAnswer placeNumbers
 place-answer m star site = ap placedAnswer (place-checked m star site)
     ∙ first-map placedAnswer (placeChecks m star site) Placed.Refused _
 

@@ -42,7 +42,7 @@ module _ {M : Type 1} (𝓤 : URA M) (H : Heap 𝓤) (A : Atoms 𝓤) (mem : Mem
       (λ κs passed a x. a .refused ≡ pos 13 → ⊥)
   unfolding number placedOut
   turbelicus-place-not-13 κs passed g a x = fact-mono 𝓤 _ _ (λ e h.
-      number-not-13 _ _ 4 _ (place-answer _ _ _) refl (ap natAbs (sym (ap (λ s. s .refused) e) ∙ h)))
+      number-not-13 _ _ 6 _ (place-answer _ _ _) refl (ap natAbs (sym (ap (λ s. s .refused) e) ∙ h)))
 
   pub turbelicus-turn-not-13 : Tells 𝓤 turbelicus-turn.ended (turbelicus-turn.clauses 𝓤 H A mem run)
       (λ κs passed a x. a .refused ≡ pos 13 → ⊥)
@@ -66,7 +66,7 @@ module _ {M : Type 1} (𝓤 : URA M) (H : Heap 𝓤) (A : Atoms 𝓤) (mem : Mem
       (turbelicus-observed-place.clauses 𝓤 H A mem run) (λ κs passed a x. a .refused ≡ pos 13 → ⊥)
   unfolding number observedOut
   turbelicus-observed-place-not-13 κs passed g a x = fact-mono 𝓤 _ _ (λ e h.
-      number-not-13 _ _ 5 _ (observed-place-answer _ _ _ _) refl (ap natAbs (sym (ap (λ s. s .refused) e) ∙ h)))
+      number-not-13 _ _ 7 _ (observed-place-answer _ _ _ _) refl (ap natAbs (sym (ap (λ s. s .refused) e) ∙ h)))
 
   pub turbelicus-list-count-not-13 : Tells 𝓤 turbelicus-list-count.ended
       (turbelicus-list-count.clauses 𝓤 H A mem run) (λ κs passed a x. a .refused ≡ pos 13 → ⊥)

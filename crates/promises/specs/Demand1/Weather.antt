@@ -20,14 +20,14 @@ use Rattle.rules.specs.declared.Observed.{Observed}
 use Rattle.rules.specs.declared.Weathered.{Weathered}
 use Rattle.rules.specs.Checks.{first}
 use Rattle.rules.specs.Refusals.{number, given, refused}
-use Rattle.rules.specs.Answers.{angleAnswer, observedAnswer, weatheredNumber, weatheredRecord}
+use Rattle.rules.specs.Answers.{angleAnswer, placeNumbers, observedAnswer, weatheredNumber, weatheredRecord}
 use Rattle.rules.specs.Place.{placeIn, place}
 use Rattle.rules.specs.Weather.{isAccepted, inRange, withReading, taken, mended, recorded, stays, takenIn, takenFrom}
 use Rattle.rules.specs.Refraction.{observed, observedIn, observedAltitude, observedAt, observedBeside, observedPlace}
 use Rattle.laws.specs.Checks.{FirstGiven, NoneGiven}
 use Rattle.promises.specs.Demand1.Checks.{placeChecks, recordChecks, readingChecks, observedChecks}
 use Rattle.promises.specs.Demand1.InOrder.{first-map, refused-exactly, alike-exactly, given-after}
-use Rattle.promises.specs.Demand1.Places.{readyNight, place-checked, fourAngles}
+use Rattle.promises.specs.Demand1.Places.{readyNight, place-checked, sixNumbers}
 
 -- ---- a reading taken into a record that C kept
 
@@ -124,14 +124,15 @@ observed-place-refused m star site w r = rw (observed-place-checked m star site 
     (refused-exactly (λ a. pos (observedAnswer a .number)) Observed.Refused _ (λ _. refl) refl
     (observedChecks m star site w) r)
 
--- the four angles of the place, and the observed altitude
-abbrev pub fiveAngles : Place → Weather → List ℤ
-fiveAngles p w = fourAngles p ++ (observed (mended w) (p .altitude) ∷ [])
+-- the numbers of the place, and the observed altitude
+abbrev pub sevenNumbers : Place → Weather → List ℤ
+sevenNumbers p w = sixNumbers p ++ (observed (mended w) (p .altitude) ∷ [])
 
 pub observed-place-answer : (m : Moment) (star : Star) (site : Site) (w : Weather)
     → observedAnswer (observedPlace m star site w)
-    ≡ first (observedChecks m star site w) (λ r. refused r 5) (given (fiveAngles (placeIn (readyNight m site) star) w))
-unfolding observedAnswer
+    ≡ first (observedChecks m star site w) (λ r. refused r 7)
+    (given (sevenNumbers (placeIn (readyNight m site) star) w))
+unfolding observedAnswer placeNumbers
 observed-place-answer m star site w = ap observedAnswer (observed-place-checked m star site w)
     ∙ first-map observedAnswer (observedChecks m star site w) Observed.Refused _
 

@@ -18,7 +18,7 @@ use Rattle.rules.specs.declared.Refusal.{Refusal}
 use Rattle.rules.specs.Units.{same, +_}
 use Rattle.rules.specs.Checks.{first}
 use Rattle.rules.specs.Refusals.{number, given, refused}
-use Rattle.rules.specs.Answers.{angleAnswer, observedAnswer, weatheredNumber, weatheredRecord}
+use Rattle.rules.specs.Answers.{orNought, flag, angleAnswer, observedAnswer, weatheredNumber, weatheredRecord}
 use Rattle.rules.specs.Place.{placeIn}
 use Rattle.rules.specs.Weather.{isPressure, isTemperature, isAccepted, inRange, withReading, mended, takenFrom}
 use Rattle.rules.specs.Refraction.{observed, observedAltitude, observedPlace}
@@ -128,16 +128,20 @@ observedRefused r = record {
   azimuth = pos 0;
   altitude = pos 0;
   «observed_altitude» = pos 0;
+  «has_ra» = pos 0;
+  «has_azimuth» = pos 0;
 }
 
 abbrev pub observedGiven : Place → ℤ → TurbelicusObserved
 observedGiven p h = record {
   refused = pos 0;
-  ra = p .ra;
+  ra = orNought (p .ra);
   declination = p .declination;
-  azimuth = p .azimuth;
+  azimuth = orNought (p .azimuth);
   altitude = p .altitude;
   «observed_altitude» = h;
+  «has_ra» = flag (p .ra);
+  «has_azimuth» = flag (p .azimuth);
 }
 
 -- where nothing is refused
@@ -151,7 +155,7 @@ turbelicus-observed-place-checked : (m : Moment) (star : Star) (site : Site) (w 
     ≡ first (observedChecks m star site w) observedRefused (observedGivenAt m star site w)
 unfolding observedOut observedAnswer given refused
 turbelicus-observed-place-checked m star site w = ap observedOut (observed-place-answer m star site w)
-    ∙ first-map observedOut (observedChecks m star site w) (λ r. refused r 5) _
+    ∙ first-map observedOut (observedChecks m star site w) (λ r. refused r 7) _
 
 pub turbelicus-observed-place-refused : (m : Moment) (star : Star) (site : Site) (w : Weather) (r : Refusal)
     → (observedOut (observedAnswer (observedPlace m star site w)) ≡ observedRefused r)

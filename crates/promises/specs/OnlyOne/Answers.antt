@@ -16,6 +16,7 @@ use Rattle.answers.proofs.places.placed_out as placed-out
 use Rattle.answers.proofs.probe.weather_of as weather-of
 use Rattle.answers.proofs.probe.weathered_out as weathered-out
 use Rattle.answers.proofs.turns.turned_out as turned-out
+use Rattle.answers.proofs.turns.read_out as read-out
 
 module _ {M : Type 1} (𝓤 : URA M) (H : Heap 𝓤) (A : Atoms 𝓤) (mem : Memory → SProp 𝓤) (run : Routine → Fun 𝓤) where
   pub counted-out-one : OneAnswer 𝓤 counted-out.ended (counted-out.clauses 𝓤 H A mem run)
@@ -44,3 +45,6 @@ module _ {M : Type 1} (𝓤 : URA M) (H : Heap 𝓤) (A : Atoms 𝓤) (mem : Mem
 
   pub turned-out-one : OneAnswer 𝓤 turned-out.ended (turned-out.clauses 𝓤 H A mem run)
   turned-out-one κs passed g r s x y = one 𝓤 r s _
+
+  pub read-out-one : OneAnswer 𝓤 read-out.ended (read-out.clauses 𝓤 H A mem run)
+  read-out-one κs passed g r s x y = one 𝓤 r s _

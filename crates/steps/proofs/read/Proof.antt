@@ -1,10 +1,9 @@
 -- `steps::read` meets its contract.
-use mathlib.Core.Path.{_∙_}
 use Prim.Native.Nat.{_+_}
 use native.Mathlib.Omega.{arith}
 use borrow.Author.Needs.{needs}
 use mir.Facts.{toZ-ofZ}
-use Rattle.words.specs.Fits.{fits32, held64}
+use Rattle.words.specs.Fits.{fits32}
 use Rattle.words.specs.Holds.{Holds, bits, arg}
 use Rattle.rules.specs.Units.{unit}
 use Rattle.steps.proofs.read.Statement.{statement}
@@ -28,8 +27,7 @@ reading-requires c κs = search needs
 returns : tie.Need-returns
 returns c =
     let start = c .before in
-    held64 (c .reading .result) (c .reading .ok)
-    ∙ rw (
+    rw (
       h-holds start .value,
       v-holds start .value,
       toZ-ofZ (fits32 (start .args .h) (omega (arith, start .pre .h-le))),

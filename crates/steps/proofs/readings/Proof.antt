@@ -29,11 +29,9 @@ returns c =
     let second = c .before .before .before .before .before in
     let third = c .before in
     rw (
-      held64 (first .read .result) (first .read .ok)
-          ∙ rw (x-holds v (start .pre .0) .value, y-holds v (start .pre .0) .value) at (first .read .ensures),
+      rw (x-holds v (start .pre .0) .value, y-holds v (start .pre .0) .value) at (first .read .ensures),
       held64 (second .height .result) (second .height .ok) ∙ second .height .ensures,
-      held64 (third .read2 .result) (third .read2 .ok)
-          ∙ rw (negate (x-holds w (start .pre .1)) tt .value, y-holds w (start .pre .1) .value)
+      rw (negate (x-holds w (start .pre .1)) tt .value, y-holds w (start .pre .1) .value)
           at (third .read2 .ensures),
       held64 (c .height2 .result) (c .height2 .ok) ∙ c .height2 .ensures,
     )

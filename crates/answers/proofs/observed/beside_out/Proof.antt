@@ -3,7 +3,7 @@ use mathlib.Core.Path.{_≡_, sym, ap, _∙_}
 use mathlib.Core.Bool.{true, false}
 use borrow.Author.Needs.{needs}
 use lib.IntN.{pos}
-use mir.Syntax.{w64}
+use mir.Syntax.{w32, w64}
 use mir.Val.{toZ, ofZ}
 use Rattle.rules.specs.Units.{same}
 use Rattle.laws.specs.Units.{same-of, not-same}
@@ -47,6 +47,8 @@ returns c =
     let azimuth-held : toZ w64 (ofZ w64 (a .p .azimuth)) ≡ a .p .azimuth = search needs in
     let altitude-held : toZ w64 (ofZ w64 (a .p .altitude)) ≡ a .p .altitude = search needs in
     let seen-held : toZ w64 (ofZ w64 (a .seen .altitude)) ≡ a .seen .altitude = search needs in
+    let has-ra-held : toZ w32 (ofZ w32 (a .p .«has_ra»)) ≡ a .p .«has_ra» = search needs in
+    let has-azimuth-held : toZ w32 (ofZ w32 (a .p .«has_azimuth»)) ≡ a .p .«has_azimuth» = search needs in
     rw (
       placed-is-0 (t .before .before .before),
       seen-is-0 t,
@@ -55,6 +57,8 @@ returns c =
       azimuth-held,
       altitude-held,
       seen-held,
+      has-ra-held,
+      has-azimuth-held,
     )
 
 returns-2 : tie.Need-returns-2

@@ -3,7 +3,6 @@ use mathlib.Core.Path.{_≡_, sym, _∙_}
 use native.Mathlib.Omega.{arith}
 use lib.IntN.{ℤ}
 use borrow.Author.Needs.{needs}
-use borrow.Author.Tests.{eq-eqb, ne-eqb}
 use mir.Syntax.{w64}
 use mir.Val.{SFits, toZ, ofZ}
 use mir.Facts.{toZ-ofZ}
@@ -14,9 +13,8 @@ use Rattle.line_entries.specs.ObservedAltitude.{observedOf-or}
 use Rattle.line_entries.proofs.observed.observed_of.Statement.{statement}
 use Rattle.line_entries.proofs.observed.observed_of.Tie as tie
 
-returns : tie.Need-returns
-unfolding observedOf
-returns c = sym (rw (ne-eqb (c .before .before .args .entry .mark) 0 (c .if1 .taken)))
+is-filled-requires : tie.Need-is-filled-requires
+is-filled-requires c κs = search needs
 
 lift-at-requires : tie.Need-lift-at-requires
 lift-at-requires c κs = search needs
@@ -26,7 +24,7 @@ module _ (c : tie.After-lift-at) where
   start = c .before .before .before .before
 
   abbrev h : ℤ
-  h = start .args .entry .place .altitude
+  h = start .args .entry .angles .altitude
 
   altitude-fits : SFits w64 h
   altitude-fits = search needs
@@ -42,15 +40,19 @@ add-result c =
     (observedOf-or (start c .args .p) (start c .args .t) (start c .pre) (start c .args .entry) (SFits w64)
     (altitude-fits c) (λ z k. fits64 z (omega arith)))
 
-returns-2 : tie.Need-returns-2
+returns : tie.Need-returns
 unfolding observedOf
-returns-2 c =
+returns c =
     toZ-ofZ (add-result c)
     ∙ rw (
       toZ-ofZ (altitude-fits c),
       lift-is c,
-      eq-eqb (start c .args .entry .mark) 0 (c .before .before .if1 .left),
+      sym (c .before .before .before .is-filled .ensures) ∙ c .before .before .if1 .taken,
     )
 
+returns-2 : tie.Need-returns-2
+unfolding observedOf
+returns-2 c = rw (sym (c .before .is-filled .ensures) ∙ c .if1 .left)
+
 pub observed-of-spec : {M : Type 1} → statement M
-observed-of-spec = tie.close (tie.spec returns lift-at-requires add-result returns-2)
+observed-of-spec = tie.close (tie.spec is-filled-requires lift-at-requires add-result returns returns-2)

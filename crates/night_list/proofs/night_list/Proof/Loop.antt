@@ -1,6 +1,6 @@
 -- The loop of `night_list`: ps are the entries that are worked, zs those to be worked, as they came, and ps with zs
 -- worked are ws worked, which the plan names; f works one. In memory ps and zs stand before ds, past the plan's count,
--- and the tally is how many of ps are marked 0.
+-- and the tally is how many of ps are filled.
 use mathlib.Core.Path.{_≡_, refl, sym, _∙_, ap}
 use Prim.Native.Nat.{ℕ, _+_, _≤_}
 use mathlib.Core.List.{List, [], _∷_, _++_, map, append-assoc, append-nil}

@@ -12,7 +12,7 @@ use Rattle.rules.specs.Length.{root, square}
 use Rattle.rules.specs.Reading as rule
 use Rattle.rules.specs.Heights.{asHeight, height}
 use Rattle.laws.specs.UpTo.{upTo-le}
-use Rattle.laws.specs.ReadingRange.{reading-range}
+use Rattle.laws.specs.ReadingRange.{angleOf-range}
 use Rattle.words.specs.Holds.{Holds, bits, _+ʷ_, _*ʷ_, arg, got, lit, add, add-ok, sub, sub-ok, mul, mul-ok}
 use Rattle.reading.proofs.octants.height_of.Statement.{statement}
 use Rattle.reading.proofs.octants.height_of.Tie as tie
@@ -49,13 +49,13 @@ root-holds c =
 -- ---- the reading
 
 abbrev angle : tie.Start → ℤ
-angle c = rule.reading (pos (root (sum c))) (c .args .z)
+angle c = rule.angleOf (pos (root (sum c))) (c .args .z)
 
-angle-holds : (c : tie.After-reading-of) → Holds (bits (c .reading-of .result)) (angle (c .before .before)) (circle - 1)
+angle-holds : (c : tie.After-angle-of) → Holds (bits (c .angle-of .result)) (angle (c .before .before)) (circle - 1)
 angle-holds c =
     let b = c .before .before in
-    got (rw (root-holds (c .before) .value, z-holds b .value) at (c .reading-of .ensures))
-    (upTo-le (angle b) (circle - 1) (reading-range (pos (root (sum b))) (b .args .z))) tt
+    got (rw (root-holds (c .before) .value, z-holds b .value) at (c .angle-of .ensures))
+    (upTo-le (angle b) (circle - 1) (angleOf-range (pos (root (sum b))) (b .args .z))) tt
 
 returns : tie.Need-returns
 unfolding height asHeight
@@ -86,8 +86,8 @@ whole-root-requires : tie.Need-whole-root-requires
 whole-root-requires c κs =
     rw (squares-hold c .value, squares-is (c .args .x) (c .args .y)) (record { le = le→leb 0 (sum c) (omega arith) })
 
-reading-of-requires : tie.Need-reading-of-requires
-reading-of-requires c κs =
+angle-of-requires : tie.Need-angle-of-requires
+angle-of-requires c κs =
     rw (root-holds c .value, z-holds (c .before) .value)
     (record {
       h-le = omega (arith, root-holds c .size);
@@ -106,7 +106,7 @@ height-of-spec =
     mul-whole-root-2
     add-whole-root
     whole-root-requires
-    reading-of-requires
+    angle-of-requires
     sub-result
     returns
     returns-2)

@@ -1,4 +1,4 @@
--- `reading::octants::reading_of` meets its contract.
+-- `reading::octants::angle_of` meets its contract.
 use Prim.Native.Nat.{ℕ, _^_}
 use mathlib.Core.Path.{_≡_}
 use mathlib.Core.Bool.{true, false}
@@ -8,10 +8,10 @@ use lib.Signed.{ltZ}
 use Rattle.rules.specs.Units.{circle, quarter}
 use Rattle.rules.specs.Reading as rule
 use Rattle.laws.specs.UpTo.{upTo-pos, upTo-le}
-use Rattle.laws.specs.ReadingRange.{angleToQuarter-range, bySigns-range, reading-is}
+use Rattle.laws.specs.ReadingRange.{angleToQuarter-range, bySigns-range}
 use Rattle.words.specs.Holds.{Holds, bits, arg, got}
-use Rattle.reading.proofs.octants.reading_of.Statement.{statement}
-use Rattle.reading.proofs.octants.reading_of.Tie as tie
+use Rattle.reading.proofs.octants.angle_of.Statement.{statement}
+use Rattle.reading.proofs.octants.angle_of.Tie as tie
 
 h-holds : (c : tie.Start) → Holds (bits (c .args .h)) (c .args .h) (2 ^ 31)
 h-holds c = arg (c .args .h) (c .pre .h-le) tt
@@ -84,21 +84,21 @@ by-signs-requires c κs =
     rw (angle-holds c .value) (angleToQuarter-range (m b) (n b) (b .pre .some))
 
 returns : tie.Need-returns
-unfolding rule.notCircle
+unfolding rule.notCircle rule.angleOf
 returns c =
     let b = c .before .before .before .before .before in
     let t : ltZ (placed b) (pos circle) ≡ true = rw (placed-holds (c .before) .value) at (c .if1 .taken) in
-    rw (reading-is (b .args .h) (b .args .v) (b .pre .some), t) (placed-holds (c .before) .value)
+    rw t (placed-holds (c .before) .value)
 
 returns-2 : tie.Need-returns-2
-unfolding rule.notCircle
+unfolding rule.notCircle rule.angleOf
 returns-2 c =
     let b = c .before .before .before .before .before in
     let t : ltZ (placed b) (pos circle) ≡ false = rw (placed-holds (c .before) .value) at (c .if1 .left) in
-    rw (reading-is (b .args .h) (b .args .v) (b .pre .some), t)
+    rw t
 
-pub reading-of-spec : {M : Type 1} → statement M
-reading-of-spec =
+pub angle-of-spec : {M : Type 1} → statement M
+angle-of-spec =
     tie.close
     (tie.spec
     size-of-requires

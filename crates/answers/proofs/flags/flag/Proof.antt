@@ -1,9 +1,9 @@
--- `answers::probe::flag` meets its contract.
+-- `answers::flags::flag` meets its contract.
 use mathlib.Core.Path.{sym, ap}
 use mathlib.Core.Bool.{cond}
 use Rattle.rules.specs.Units.{+_}
-use Rattle.answers.proofs.probe.flag.Statement.{statement}
-use Rattle.answers.proofs.probe.flag.Tie as tie
+use Rattle.answers.proofs.flags.flag.Statement.{statement}
+use Rattle.answers.proofs.flags.flag.Tie as tie
 
 returns : tie.Need-returns
 returns c = sym (ap (λ b. cond b (+ 1) (+ 0)) (c .if1 .taken))
