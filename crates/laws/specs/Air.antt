@@ -1,20 +1,27 @@
--- What the air does to a lift: denser air lifts no less, warmer air no more.
-use mathlib.Core.Path.{_≡_, refl}
-use mathlib.Core.Bool.{Bool, true, false, cond}
+-- What the air does to a lift: denser air lifts no less, warmer air no more, and a lift of nought stays nought.
+use mathlib.Core.Path.{_≡_, refl, ap, _∙_}
+use mathlib.Core.Bool.{Bool, true, false, cond, _&&_}
 use Prim.Native.Nat.{ℕ, _+_, _*_, _≤_}
 use native.Mathlib.Nat.{mul-le-mul-left, mul-le-mul-right}
 use native.Mathlib.Omega.{arith}
+use lib.Dec.{lit≤}
 use lib.IntN.{ℤ, pos, natAbs, _+ℤ_, _*ℤ_}
-use lib.Signed.{_≤ℤ_}
+use lib.Signed.{ltZ, _≤ℤ_}
 use Rattle.integers.specs.Difference.{add-is, leZ-true, parts-of-eq}
 use Rattle.integers.specs.Size.{abs-is, abs-mul, parts-apart}
+use Rattle.rules.specs.declared.Weather.{Weather}
 use Rattle.rules.specs.Units.{+_}
-use Rattle.rules.specs.Rounding.{rndSize}
+use Rattle.rules.specs.Rounding.{rnd, rndSize}
+use Rattle.rules.specs.Circle.{pair}
+use Rattle.rules.specs.Floats.{tenths}
 use Rattle.laws.specs.Ranges.{InRange, yes, le-of-sizes}
 use Rattle.laws.specs.Rounding.{rnd-pos, rndSize-mono}
-use Rattle.laws.specs.UpTo.{UpTo, upTo-is}
-use Rattle.rules.specs.Refraction.{standardLift, inWeather, isLifted, liftAt}
+use Rattle.laws.specs.UpTo.{UpTo, upTo-pos, upTo-is, upTo-le}
+use Rattle.rules.specs.Refraction.{argument, notBelowNought, liftOf, standardLift, inWeather, isLifted}
+use Rattle.rules.specs.Refraction.{liftAt, lift}
+use Rattle.laws.specs.Weather.{FieldsInRange}
 use Rattle.laws.specs.Refraction.{weather-divisor, Air, standardLift-range, liftAt-range}
+use Rattle.laws.specs.Refraction.{record-air, inWeather-range}
 
 -- the lift as a quotient of sizes
 abbrev pub dividend : ℤ → ℤ → ℕ
@@ -103,3 +110,30 @@ module _ (h : ℤ) where
           ≤ natAbs (cond b (inWeather (standardLift h) p s) (+ 0))
       by true e = warmer (standardLift h) 3300000000 (standardLift-range h e) p s t u v k
       by false e = omega arith
+
+-- ---- a lift that would be negative
+
+-- "nought if negative"
+pub lift-where-negative : (w : Weather) (h : ℤ) → FieldsInRange w
+    → ltZ (rnd (+ 61200000 *ℤ pair (argument h) .cosine) (natAbs (pair (argument h) .sine))) (+ 0) ≡ true
+    → lift w h ≡ + 0
+unfolding lift liftAt standardLift liftOf notBelowNought
+lift-where-negative w h f e = rw e (either (w .«has_pressure» && w .«has_temperature») (isLifted h))
+  where
+    p : ℤ
+    p = tenths (w .pressure)
+
+    t : ℤ
+    t = tenths (w .temperature)
+
+    none : inWeather (+ 0) p t ≡ + 0
+    none =
+        let a = record-air w f in
+        let z = inWeather (+ 0) p t in
+        let u = inWeather-range (+ 0) p t 0 0 (upTo-pos 0 0 (lit≤ tt)) (a .pressure) (a .temperature) (lit≤ tt) in
+        upTo-is z 0 u ∙ ap pos (omega (arith, upTo-le z 0 u))
+
+    either : (b c : Bool) → cond b (cond c (inWeather (+ 0) p t) (+ 0)) (+ 0) ≡ + 0
+    either true true = none
+    either true false = refl
+    either false c = refl

@@ -2,6 +2,7 @@
 -- Endings: -neg odd, -near error, -le size, -one no second, -nearest and -root meet the relation, -of-H from H.
 pub mod RefusalNumbers
 pub mod Refusals
+pub mod PlaceAnswers
 pub mod Units
 pub mod Rounding
 pub mod Nearest
@@ -33,6 +34,7 @@ pub mod AdditionFormulas
 pub mod ReadingRange
 pub mod Heights
 pub mod NoAngle
+pub mod ArcNotNought
 pub mod Poles
 pub mod ReadingParts
 pub mod Across

@@ -92,19 +92,19 @@ placeOf a = record {
   altitude = a .altitude;
 }
 
-read-again : (r : Read) (height : ℤ) → r ≡ Read.NoAngle ↔ natAbs height ≡ quarter → readBeside height (orNought r) ≡ r
+read-beside : (r : Read) (height : ℤ) → r ≡ Read.NoAngle ↔ natAbs height ≡ quarter → readBeside height (orNought r) ≡ r
 unfolding orNought readBeside
-read-again (Read.Angle a) height i =
+read-beside (Read.Angle a) height i =
     rw (ne-eqb (natAbs height) quarter (λ e. some-is-not-none a (i .1 e)))
-read-again Read.NoAngle height i = rw (eq-eqb (natAbs height) quarter (i .0 refl))
+read-beside Read.NoAngle height i = rw (eq-eqb (natAbs height) quarter (i .0 refl))
 
-pub place-again : (n : Night) (s : Star) → NightFits n → placeOf (anglesOf (placeIn n s)) ≡ placeIn n s
+pub place-of-entry : (n : Night) (s : Star) → NightFits n → placeOf (anglesOf (placeIn n s)) ≡ placeIn n s
 unfolding anglesOf placeOf
-place-again n s h =
+place-of-entry n s h =
     let p = placeIn n s in
     rw (
-      read-again (p .ra) (p .declination) (no-ra-by-declination n h s),
-      read-again (p .azimuth) (p .altitude) (no-azimuth-by-altitude n h s),
+      read-beside (p .ra) (p .declination) (no-ra-by-declination n h s),
+      read-beside (p .azimuth) (p .altitude) (no-azimuth-by-altitude n h s),
     )
 
 -- ---- marks

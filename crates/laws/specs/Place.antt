@@ -8,6 +8,7 @@ use native.Mathlib.Omega.{arith}
 use lib.Dec.{T, lit<, lit≤}
 use lib.IntN.{ℤ, pos, negsuc, negℤ, natAbs, _*ℤ_}
 use Rattle.integers.specs.Size.{abs-add, abs-mul}
+use Rattle.rules.specs.declared.Ut.{Ut}
 use Rattle.rules.specs.declared.Tt.{Tt}
 use Rattle.rules.specs.declared.Direction.{Direction}
 use Rattle.rules.specs.declared.Moment.{Moment}
@@ -153,32 +154,36 @@ placeIn-ranges n s =
       altitude = height-le w;
     }
 
--- an answer is none of the refusals
-clash : {A : Type 0} (r : Refusal) (p : Place) → Placed.Refused r ≡ Placed.At p → A
-clash r p e = let z : _≡_ {A = ℕ} 0 1 = cc in absurd (omega arith)
+-- every answer is the place in a night of the moment
+pub record InNight (m : Moment) (star : Star) (site : Site) (p : Place) : Type 0 where
+  pub ut : Ut
+  pub tt-at : Tt
+  pub at : instants m ≡ Instants.At ut tt-at
+  pub is : placeIn (night ut tt-at site) star ≡ p
 
--- what holds of a place in any night, and of what is refused, holds of every answer
-by-answer : (P : Placed → Type 0) (star : Star) (site : Site)
-    → ((r : Refusal) → P (Placed.Refused r)) → ((n : Night) → P (Placed.At (placeIn n star)))
-    → (i : Instants) → P (placeAt i star site)
-unfolding placeAt
-by-answer P star site f g (Instants.Refused r) = f r
-by-answer P star site f g (Instants.At u t) = by (starRefused star) (siteRefused site)
+pub in-night : (m : Moment) (star : Star) (site : Site) (p : Place) → place m star site ≡ Placed.At p
+    → InNight m star site p
+unfolding place placeAt
+in-night m star site p e = by (instants m) refl e
   where
-    by : (a b : Bool)
-        → P (cond a (Placed.Refused Refusal.Star)
-        (cond b (Placed.Refused Refusal.Site) (Placed.At (placeIn (night u t site) star))))
-    by true b = f Refusal.Star
-    by false true = f Refusal.Site
-    by false false = g (night u t site)
+    clash : {A : Type 0} (r : Refusal) → Placed.Refused r ≡ Placed.At p → A
+    clash r k = let z : _≡_ {A = ℕ} 0 1 = cc in absurd (omega arith)
+
+    go : (u : Ut) (t : Tt) → instants m ≡ Instants.At u t → (a b : Bool)
+        → cond a (Placed.Refused Refusal.Star)
+        (cond b (Placed.Refused Refusal.Site) (Placed.At (placeIn (night u t site) star))) ≡ Placed.At p
+        → InNight m star site p
+    go u t at true b k = clash Refusal.Star k
+    go u t at false true k = clash Refusal.Site k
+    go u t at false false k = record { ut = u; tt-at = t; at = at; is = cc }
+
+    by : (i : Instants) → instants m ≡ i → placeAt i star site ≡ Placed.At p → InNight m star site p
+    by (Instants.Refused r) at k = clash r k
+    by (Instants.At u t) at k = go u t at (starRefused star) (siteRefused site) k
 
 -- of every place that is answered
 pub place-ranges : (m : Moment) (star : Star) (site : Site) (p : Place) → place m star site ≡ Placed.At p
     → PlaceRanges p
-unfolding place
 place-ranges m star site p e =
-    by-answer (λ a. a ≡ Placed.At p → PlaceRanges p) star site (λ r c. clash r p c)
-    (λ n c. subst PlaceRanges (same (placeIn n star) p c) (placeIn-ranges n star)) (instants m) e
-  where
-    same : (a b : Place) → Placed.At a ≡ Placed.At b → a ≡ b
-    same a b c = cc
+    let i = in-night m star site p e in
+    subst PlaceRanges (i .is) (placeIn-ranges (night (i .ut) (i .tt-at) site) star)

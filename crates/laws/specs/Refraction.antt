@@ -1,5 +1,5 @@
 -- The lift: its size, so that every product fits, and where it is nought.
-use mathlib.Core.Path.{_≡_, refl, ap, _∙_}
+use mathlib.Core.Path.{_≡_, refl}
 use mathlib.Core.Bool.{Bool, true, false, cond, _&&_}
 use Prim.Native.Nat.{ℕ, _+_, _*_, _≤_, _<_, _^_}
 use native.Mathlib.Nat.{mul-le-mul, mul-le-mul-right}
@@ -161,31 +161,6 @@ lift-without-temperature w h e = rw e (none (w .«has_pressure»))
     none : (b : Bool) → cond (b && false) (liftAt (tenths (w .pressure)) (tenths (w .temperature)) h) (+ 0) ≡ + 0
     none true = refl
     none false = refl
-
--- "nought if negative"
-pub lift-where-negative : (w : Weather) (h : ℤ) → FieldsInRange w
-    → ltZ (rnd (+ 61200000 *ℤ pair (argument h) .cosine) (natAbs (pair (argument h) .sine))) (+ 0) ≡ true
-    → lift w h ≡ + 0
-unfolding lift liftAt standardLift liftOf notBelowNought
-lift-where-negative w h f e = rw e (either (w .«has_pressure» && w .«has_temperature») (isLifted h))
-  where
-    p : ℤ
-    p = tenths (w .pressure)
-
-    t : ℤ
-    t = tenths (w .temperature)
-
-    none : inWeather (+ 0) p t ≡ + 0
-    none =
-        let a = record-air w f in
-        let z = inWeather (+ 0) p t in
-        let u = inWeather-range (+ 0) p t 0 0 (upTo-pos 0 0 (lit≤ tt)) (a .pressure) (a .temperature) (lit≤ tt) in
-        upTo-is z 0 u ∙ ap pos (omega (arith, upTo-le z 0 u))
-
-    either : (b c : Bool) → cond b (cond c (inWeather (+ 0) p t) (+ 0)) (+ 0) ≡ + 0
-    either true true = none
-    either true false = refl
-    either false c = refl
 
 -- so that an observed altitude fits wherever the altitude does
 pub lifted-or : (h l : ℤ) (P : ℤ → Type 0) → UpTo l 4600000000 → (isLifted h ≡ false → l ≡ pos 0) → P h

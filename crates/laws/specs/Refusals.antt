@@ -1,7 +1,6 @@
 -- The paper's number and values of an answer are one-to-one: two answers that say the same on paper are the same
 -- answer. So a contract that fixes what is said on paper leaves one answer of the enum.
-use mathlib.Core.Path.{_≡_, refl, sym, ap, _∙_}
-use mathlib.Core.Bool.{cond}
+use mathlib.Core.Path.{_≡_, refl, sym, ap}
 use mathlib.Core.List.{List, []}
 use Prim.Native.Nat.{ℕ, _+_, _<_}
 use native.Mathlib.Omega.{arith}
@@ -9,8 +8,6 @@ use lib.Dec.{lit<}
 use lib.ListN.{length, getD}
 use lib.IntN.{ℤ, pos, natAbs}
 use Rattle.rules.specs.declared.Pair.{Pair}
-use Rattle.rules.specs.declared.Read.{Read}
-use Rattle.rules.specs.declared.Place.{Place}
 use Rattle.rules.specs.declared.Moment.{Moment}
 use Rattle.rules.specs.declared.Refusal.{Refusal}
 use Rattle.rules.specs.declared.Numbered.{Numbered}
@@ -23,15 +20,12 @@ use Rattle.rules.specs.declared.FiveArguments.{FiveArguments}
 use Rattle.rules.specs.declared.Nutated.{Nutated}
 use Rattle.rules.specs.declared.Turned.{Turned}
 use Rattle.rules.specs.declared.Prepared.{Prepared}
-use Rattle.rules.specs.declared.Placed.{Placed}
 use Rattle.rules.specs.declared.Listed.{Listed}
 use Rattle.rules.specs.declared.ListedStar.{ListedStar}
-use Rattle.rules.specs.Units.{same}
 use Rattle.rules.specs.Refusals.{Answer, given, refused, otherForm}
 use Rattle.rules.specs.Answers.{numberedAnswer, datedAnswer, instantsAnswer, momentNumbers, lineAnswer}
-use Rattle.rules.specs.Answers.{angleAnswer, precessedAnswer, fiveArgumentsAnswer, nutatedAnswer, turnedAnswer, placedAnswer}
+use Rattle.rules.specs.Answers.{angleAnswer, precessedAnswer, fiveArgumentsAnswer, nutatedAnswer, turnedAnswer}
 use Rattle.rules.specs.Answers.{listedAnswer, listedStarAnswer, parts, preparedAnswer}
-use Rattle.rules.specs.Answers.{hasAngle, orNought, flag, readAnswer, placeNumbers}
 use Rattle.laws.specs.RefusalNumbers.{number-pos, number-one}
 
 -- what is refused has a number that no answer has
@@ -141,43 +135,6 @@ turned-one (Turned.To v) (Turned.To v′) e =
 turned-one (Turned.To v) (Turned.Refused s) e = never s 3 _ e
 turned-one (Turned.Refused r) (Turned.To v) e = never r 3 _ (sym e)
 turned-one (Turned.Refused r) (Turned.Refused s) e = ap Turned.Refused (same-refusal r s 3 e)
-
--- ---- flags and angles
-
--- an angle with its flag, from the two again
-abbrev pub readOf : ℤ → ℤ → Read
-readOf has a = cond (same has (pos 1)) (Read.Angle a) Read.NoAngle
-
-pub read-again : (r : Read) → readOf (flag r) (orNought r) ≡ r
-unfolding same hasAngle orNought flag
-read-again (Read.Angle a) = refl
-read-again Read.NoAngle = refl
-
-pub read-one : (a b : Read) → readAnswer a ≡ readAnswer b → a ≡ b
-unfolding readAnswer
-read-one a b e = sym (read-again a) ∙ ap (λ zs. readOf (at zs 0) (at zs 1)) (same-values _ _ e) ∙ read-again b
-
-abbrev placeAt : List ℤ → Place
-placeAt zs = record {
-  ra = readOf (at zs 0) (at zs 1);
-  declination = at zs 2;
-  azimuth = readOf (at zs 3) (at zs 4);
-  altitude = at zs 5;
-}
-
-place-again : (p : Place) (beside : List ℤ) → placeAt (placeNumbers p beside) ≡ p
-unfolding placeNumbers
-place-again p beside = rw (read-again (p .ra), read-again (p .azimuth))
-
-pub place-one : (p q : Place) (ys zs : List ℤ) → placeNumbers p ys ≡ placeNumbers q zs → p ≡ q
-place-one p q ys zs e = sym (place-again p ys) ∙ ap placeAt e ∙ place-again q zs
-
-pub placed-one : (a b : Placed) → placedAnswer a ≡ placedAnswer b → a ≡ b
-unfolding placedAnswer
-placed-one (Placed.At p) (Placed.At p′) e = ap Placed.At (place-one p p′ [] [] (same-values _ _ e))
-placed-one (Placed.At p) (Placed.Refused s) e = never s 6 _ e
-placed-one (Placed.Refused r) (Placed.At p) e = never r 6 _ (sym e)
-placed-one (Placed.Refused r) (Placed.Refused s) e = ap Placed.Refused (same-refusal r s 6 e)
 
 pub listed-one : (a b : Listed) → listedAnswer a ≡ listedAnswer b → a ≡ b
 unfolding listedAnswer

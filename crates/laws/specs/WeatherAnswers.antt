@@ -6,7 +6,8 @@ use Rattle.rules.specs.declared.Observed.{Observed}
 use Rattle.rules.specs.declared.Weathered.{Weathered}
 use Rattle.rules.specs.Refusals.{number}
 use Rattle.rules.specs.Answers.{placeNumbers, observedAnswer, weatheredNumber, weatheredRecord}
-use Rattle.laws.specs.Refusals.{never, same-refusal, same-values, at, place-one}
+use Rattle.laws.specs.Refusals.{never, same-refusal, same-values, at}
+use Rattle.laws.specs.PlaceAnswers.{place-one}
 
 pub observed-one : (a b : Observed) → observedAnswer a ≡ observedAnswer b → a ≡ b
 unfolding observedAnswer placeNumbers

@@ -15,7 +15,7 @@ abbrev pub dash : List ℕ
 dash = 45 ∷ []
 
 -- an angle, or a dash where there is none: the height beside it is a quarter there and nowhere else
--- (`laws/Marks.place-again`)
+-- (`laws/Marks.place-of-entry`)
 unfoldable pub orDash : ℤ → List ℕ → List ℕ
 orDash height angle = cond (eqb (natAbs height) quarter) dash angle
 

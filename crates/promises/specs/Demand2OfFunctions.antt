@@ -36,7 +36,7 @@ use Rattle.rules.specs.Place as places
 use Rattle.laws.specs.Reading as readings
 use Rattle.laws.specs.RefusalNumbers.{number-pos}
 use Rattle.answers.specs.Answers.{placedOut, readOut}
-use Rattle.laws.specs.Refusals.{readOf, read-again}
+use Rattle.laws.specs.PlaceAnswers.{readOf, read-again}
 use Rattle.answers.specs.declared.places.TurbelicusPlaced.{TurbelicusPlaced}
 use Rattle.promises.specs.Contracts.{Tells, so-told}
 use Rattle.promises.specs.ByContract as answers

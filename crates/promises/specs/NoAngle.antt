@@ -1,11 +1,8 @@
 -- Change C-12 in full: where there is no angle, what the place, the night list, C and `places` make of it.
-use mathlib.Core.Path.{_≡_, refl, sym, subst, _∙_}
-use mathlib.Core.Bool.{Bool, true, false, cond}
+use mathlib.Core.Path.{_≡_, sym, subst, _∙_}
+use mathlib.Core.Bool.{true, false}
 use mathlib.Core.Logic.{_↔_}
-use mathlib.Core.List.{List, _++_}
-use Prim.Native.Nat.{ℕ, _+_}
-use native.Mathlib.Omega.{arith}
-use lib.Dec.{eqb}
+use Prim.Native.Nat.{_+_}
 use lib.IntN.{ℤ, pos, natAbs}
 use Rattle.rules.specs.declared.Direction.{Direction}
 use Rattle.rules.specs.declared.Read.{Read}
@@ -15,10 +12,8 @@ use Rattle.rules.specs.declared.Moment.{Moment}
 use Rattle.rules.specs.declared.Star.{Star}
 use Rattle.rules.specs.declared.Site.{Site}
 use Rattle.rules.specs.declared.Place.{Place}
-use Rattle.rules.specs.declared.Angles.{Angles}
 use Rattle.rules.specs.declared.Entry.{Entry}
 use Rattle.rules.specs.declared.Night.{Night}
-use Rattle.rules.specs.declared.Refusal.{Refusal}
 use Rattle.rules.specs.declared.Instants.{Instants}
 use Rattle.rules.specs.declared.Prepared.{Prepared}
 use Rattle.rules.specs.declared.Placed.{Placed}
@@ -28,25 +23,22 @@ use Rattle.rules.specs.Turning.{Accepted}
 use Rattle.rules.specs.Answers.{readAnswer}
 use Rattle.rules.specs.Reading.{angleOf, reading}
 use Rattle.rules.specs.Dates.{instants}
-use Rattle.rules.specs.Night.{siteRefused, night, nightOf}
+use Rattle.rules.specs.Night.{night, nightOf}
 use Rattle.rules.specs.Stars.{starRefused}
-use Rattle.rules.specs.Place.{apparent, overhead, placeIn, placeAt, place}
-use Rattle.rules.specs.ListReading.{freshEntry}
+use Rattle.rules.specs.Place.{apparent, overhead, placeIn, place}
 use Rattle.rules.specs.NightList.{entryOf, worked}
-use Rattle.rules.specs.Times.{decimal}
 use Rattle.laws.specs.Instants.{tt-within}
 use Rattle.laws.specs.Night.{NightFits, night-fits}
+use Rattle.laws.specs.Place.{in-night}
 use Rattle.laws.specs.NoAngle as law
-use Rattle.laws.specs.Refusals as answers
-use Rattle.laws.specs.Marks.{OnAxis, LacksOne, readBeside, placeOf}
+use Rattle.laws.specs.PlaceAnswers as answers
+use Rattle.laws.specs.Marks.{OnAxis, LacksOne, placeOf}
 use Rattle.laws.specs.Marks as marks
 use Rattle.laws.specs.SampleNight.{evening, here}
 use Rattle.laws.specs.SampleNoAngle.{poleStar, polePlace, zenithStar, zenithSite, zenithPlace, poleSite, poleAndZenith}
 use Rattle.laws.specs.SampleNoAngle as samples
 use Rattle.night_list_checks.specs.Plans.{PreparedFits}
 use Rattle.night_list.specs.Fits.{night-of-fits}
-use Rattle.sexagesimal.specs.Sexagesimal.{spaced, hours, bearing, elevation}
-use Rattle.line_entries.specs.EntryLine.{dash, orDash, two, equatorial, horizontal, plainAngles, peopleAngles}
 
 -- ---- a reading
 
@@ -74,33 +66,6 @@ pub record AxesTold (n : Night) (star : Star) (p : Place) : Type 0 where
 pub record HeightsTold (p : Place) : Type 0 where
   pub ra : p .ra ≡ Read.NoAngle ↔ natAbs (p .declination) ≡ quarter
   pub azimuth : p .azimuth ≡ Read.NoAngle ↔ natAbs (p .altitude) ≡ quarter
-
--- every answer is the place in a night of the moment
-record InNight (m : Moment) (star : Star) (site : Site) (p : Place) : Type 0 where
-  ut : Ut
-  tt-at : Tt
-  at : instants m ≡ Instants.At ut tt-at
-  is : placeIn (night ut tt-at site) star ≡ p
-
-in-night : (m : Moment) (star : Star) (site : Site) (p : Place) → place m star site ≡ Placed.At p
-    → InNight m star site p
-unfolding place placeAt
-in-night m star site p e = by (instants m) refl e
-  where
-    clash : {A : Type 0} (r : Refusal) → Placed.Refused r ≡ Placed.At p → A
-    clash r k = let z : _≡_ {A = ℕ} 0 1 = cc in absurd (omega arith)
-
-    go : (u : Ut) (t : Tt) → instants m ≡ Instants.At u t → (a b : Bool)
-        → cond a (Placed.Refused Refusal.Star)
-        (cond b (Placed.Refused Refusal.Site) (Placed.At (placeIn (night u t site) star))) ≡ Placed.At p
-        → InNight m star site p
-    go u t at true b k = clash Refusal.Star k
-    go u t at false true k = clash Refusal.Site k
-    go u t at false false k = record { ut = u; tt-at = t; at = at; is = cc }
-
-    by : (i : Instants) → instants m ≡ i → placeAt i star site ≡ Placed.At p → InNight m star site p
-    by (Instants.Refused r) at k = clash r k
-    by (Instants.At u t) at k = go u t at (starRefused star) (siteRefused site) k
 
 -- "the place shall carry that on": of every place that is answered
 pub place-axes : (m : Moment) (star : Star) (site : Site) (ut : Ut) (tt : Tt) (p : Place)
@@ -152,63 +117,4 @@ ready-fits m site n e = subst PreparedFits e (night-of-fits m site)
 pub entry-tells : (m : Moment) (site : Site) (n : Night) (e : Entry) → nightOf m site ≡ Prepared.For n
     → starRefused (e .star) ≡ false → placeOf (worked n e .angles) ≡ placeIn n (e .star)
 unfolding worked entryOf
-entry-tells m site n e r h = rw h (marks.place-again n (e .star) (ready-fits m site n r))
-
--- ---- `places`
-
--- what is printed of a right ascension or an azimuth
-abbrev pub shown : (ℤ → List ℕ) → Read → List ℕ
-shown text (Read.Angle a) = text a
-shown text Read.NoAngle = dash
-
-shown-beside : (text : ℤ → List ℕ) (height a : ℤ) → orDash height (text a) ≡ shown text (readBeside height a)
-unfolding orDash readBeside
-shown-beside text height a = by (eqb (natAbs height) quarter)
-  where
-    by : (b : Bool) → cond b dash (text a) ≡ shown text (cond b Read.NoAngle (Read.Angle a))
-    by true = refl
-    by false = refl
-
-plain-of : (a : Angles) (p : Place) → placeOf a ≡ p
-    → plainAngles a
-    ≡ (spaced (shown decimal (p .ra)) ++ spaced (decimal (p .declination)))
-    ++ (spaced (shown decimal (p .azimuth)) ++ spaced (decimal (p .altitude)))
-unfolding plainAngles two placeOf
-plain-of a p e = rw (
-  ← e,
-  shown-beside decimal (a .declination) (a .ra),
-  shown-beside decimal (a .altitude) (a .azimuth),
-)
-
-people-of : (a : Angles) (p : Place) → placeOf a ≡ p
-    → peopleAngles a
-    ≡ (spaced (shown hours (p .ra)) ++ spaced (elevation (p .declination)))
-    ++ (spaced (shown bearing (p .azimuth)) ++ spaced (elevation (p .altitude)))
-unfolding peopleAngles equatorial horizontal placeOf
-people-of a p e = rw (
-  ← e,
-  shown-beside hours (a .declination) (a .ra),
-  shown-beside bearing (a .altitude) (a .azimuth),
-)
-
--- of a star that is accepted, in every night that is made ready: a dash where the place has no angle, and there alone,
--- in µas and for people
-module _ (m : Moment) (site : Site) (n : Night) (s : Star) (ready : nightOf m site ≡ Prepared.For n)
-    (h : starRefused s ≡ false) where
-  abbrev entry : Entry
-  entry = worked n (freshEntry s)
-
-  abbrev p : Place
-  p = placeIn n s
-
-  pub plain-shows : plainAngles (entry .angles)
-      ≡ (spaced (shown decimal (p .ra)) ++ spaced (decimal (p .declination)))
-      ++ (spaced (shown decimal (p .azimuth)) ++ spaced (decimal (p .altitude)))
-  unfolding freshEntry
-  plain-shows = plain-of (entry .angles) p (entry-tells m site n (freshEntry s) ready h)
-
-  pub people-shows : peopleAngles (entry .angles)
-      ≡ (spaced (shown hours (p .ra)) ++ spaced (elevation (p .declination)))
-      ++ (spaced (shown bearing (p .azimuth)) ++ spaced (elevation (p .altitude)))
-  unfolding freshEntry
-  people-shows = people-of (entry .angles) p (entry-tells m site n (freshEntry s) ready h)
+entry-tells m site n e r h = rw h (marks.place-of-entry n (e .star) (ready-fits m site n r))

@@ -73,7 +73,7 @@ sine-above-nought h e = above-nought (pair (argument h) .sine) 20000000 unit (li
 pub lift-where-negative : (w : Weather) (h : ℤ) → FieldsInRange w
     → ltZ (rnd (+ 61200000 *ℤ pair (argument h) .cosine) (natAbs (pair (argument h) .sine))) (+ 0) ≡ true
     → lift w h ≡ + 0
-lift-where-negative w h f e = lifts.lift-where-negative w h f e
+lift-where-negative w h f e = air.lift-where-negative w h f e
 
 -- "until both have come the lift is nought"
 pub lift-without-pressure : (w : Weather) (h : ℤ) → w .«has_pressure» ≡ false → lift w h ≡ + 0

@@ -23,7 +23,7 @@ use Rattle.rules.specs.Place as places
 use Rattle.rules.specs.Refraction.{observed, observedIn, observedAltitude, observedAt, observedBeside, observedPlace}
 use Rattle.laws.specs.RefusalNumbers.{number-pos}
 use Rattle.answers.specs.declared.observed.TurbelicusObserved.{TurbelicusObserved}
-use Rattle.laws.specs.Refusals.{readOf, read-again}
+use Rattle.laws.specs.PlaceAnswers.{readOf, read-again}
 use Rattle.answers.specs.Answers.{altitudeOut, observedOut}
 use Rattle.promises.specs.Demand1.Weather.{place-untouched}
 use Rattle.promises.specs.Demand2 as demand2
