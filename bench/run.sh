@@ -83,7 +83,8 @@ of the two are at most $1″ apart (allowed: $tolerance″).
 
 - One place is \`turbelicus_place\`; a star of a night is a 64th of a night list of 64, whose instant is worked once.
 - ERFA's chain is \`bench/erfa_chain.c\`: \`eraCal2jd\`, \`eraDat\`, \`eraPrec76\`, the ten largest terms of nutation,
-  \`eraObl80\`, \`eraNumat\`, \`eraGmst82\`, circular aberration, turns by matrices, \`eraC2s\`; Debian's library.
+  \`eraObl80\`, \`eraNumat\`, \`eraGmst82\`, aberration of an elliptic orbit, turns by matrices, \`eraC2s\`; Debian's
+  library.
 - Instructions are counted by callgrind while the function runs; places a second are the best of 60 turns.
 - The ratio is the module's work over ERFA's: above 1 the module does more, or is slower.
 

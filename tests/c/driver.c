@@ -59,6 +59,7 @@ static float float_of(int64_t word) {
     FUNCTION(tests_nutation, 1, struct tests_nutated, given[0])                                                        \
     FUNCTION(tests_sun, 1, struct tests_angle, given[0])                                                               \
     FUNCTION(tests_mean_longitude, 1, struct tests_angle, given[0])                                                    \
+    FUNCTION(tests_perihelion, 1, struct tests_angle, given[0])                                                        \
     FUNCTION(tests_aberration, 1, struct tests_aberration, given[0])                                                   \
     FUNCTION(tests_sidereal, 1, struct tests_angle, given[0])                                                          \
     FUNCTION(tests_sidereal_polynomial, 1, struct tests_angle, given[0])                                               \

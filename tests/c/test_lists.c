@@ -62,8 +62,8 @@ static void nights(void) {
 /* Marks 0, 1 and 5 side by side: at the zenith there is no azimuth, at the pole of date no right ascension. */
 static void nights_without_an_angle(void) {
     const int64_t quarter = 324000000000, latitude = 180315000000, longitude = 51915000000;
-    struct tests_entry entries[] = {entry_of(0, 0), entry_of(476318619300, 180659831600), entry_of(0, quarter + 1),
-                                    entry_of(10294758035, 323471390485)};
+    struct tests_entry entries[] = {entry_of(0, 0), entry_of(476318159297, 180659983868), entry_of(0, quarter + 1),
+                                    entry_of(10315798983, 323471053674)};
     CHECK(is_listed(tests_night_list(2026, 3, 20, 20, 0, 0, 0, 0, latitude, longitude, entries, 4), 0, 3));
     CHECK(entries[0].mark == 0 && entries[1].mark == 1 && entries[2].mark == 5 && entries[3].mark == 1);
     CHECK(has_angles(entries[1], 478026476842, 180315000075, 0, quarter));

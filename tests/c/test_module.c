@@ -66,8 +66,8 @@ static struct turbelicus_placed evening(int64_t latitude, int64_t ra, int64_t de
 }
 
 static void places_without_an_angle(void) {
-    const int64_t quarter = 324000000000, pole_ra = 10294758035, pole_declination = 323471390485;
-    struct turbelicus_placed zenith = evening(180315000000, 476318619300, 180659831600);
+    const int64_t quarter = 324000000000, pole_ra = 10315798983, pole_declination = 323471053674;
+    struct turbelicus_placed zenith = evening(180315000000, 476318159297, 180659983868);
     CHECK(is_placed(zenith, 478026476842, 180315000075, 0, quarter) && zenith.has_ra == 1 && zenith.has_azimuth == 0);
     /* its azimuth is 0, in the north */
     struct turbelicus_placed pole = evening(180316000000, pole_ra, pole_declination);

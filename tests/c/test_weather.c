@@ -137,7 +137,7 @@ static void places(void) {
 /* Over the pole, at the pole of date: the air lifts nothing there, and the flags are those of the place. */
 static void zenith(void) {
     struct turbelicus_observed observed = turbelicus_observed_place(
-        2026, 3, 20, 20, 0, 0, 0, 0, QUARTER, 51915000000, 10294758035, 323471390485, 0, 0, 1013.25f, -10.25f, 1, 1);
+        2026, 3, 20, 20, 0, 0, 0, 0, QUARTER, 51915000000, 10315798983, 323471053674, 0, 0, 1013.25f, -10.25f, 1, 1);
     CHECK(observed.refused == 0 && observed.declination == QUARTER && observed.altitude == QUARTER);
     CHECK(observed.observed_altitude == QUARTER);
     CHECK(observed.ra == 0 && observed.azimuth == 0 && observed.has_ra == 0 && observed.has_azimuth == 0);

@@ -68,6 +68,7 @@ struct tests_five_arguments tests_arguments(int64_t tt);
 struct tests_nutated tests_nutation(int64_t tt);
 struct tests_angle tests_sun(int64_t tt);
 struct tests_angle tests_mean_longitude(int64_t tt);
+struct tests_angle tests_perihelion(int64_t tt);
 struct tests_aberration tests_aberration(int64_t tt);
 struct tests_angle tests_sidereal(int64_t ut);
 struct tests_angle tests_sidereal_polynomial(int64_t ut);

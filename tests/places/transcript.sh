@@ -108,7 +108,7 @@ bytes 'SLT\1\0\100\0' 64 >"$work/file"; echo "$line" | answered '64 entries, 100
 
 # stars that stand exactly at the zenith of the first latitude and at both poles of date, and an ordinary one: a dash
 # for an angle that there is not. Over the poles those two have neither.
-{ bytes 'SLT\1\0\4\0'; star 476318619300 180659831600; star 10294758035 323471390485; star 643610219813 -323471986802
+{ bytes 'SLT\1\0\4\0'; star 476318159297 180659983868; star 10315798983 323471053674; star 643579742410 -323472318850
   star 0 0; } >"$work/file"
 for latitude in 180315000000 180316000000 324000000000 -324000000000; do
     text="2026-03-20 20:00:00.000 0 $latitude 51915000000"

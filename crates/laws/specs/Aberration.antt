@@ -20,7 +20,7 @@ use Rattle.laws.specs.Directions.{PartsLe, plus, minus, plus-le, le-of-m
 use Rattle.laws.specs.Length.{toLength-accepted}
 use Rattle.laws.specs.Turn3.{longest}
 
--- the most that an added part may be; an orbit that is no circle stays below it too
+-- the most that an added part may be: above what step 4 adds (`Night.mostAberration`)
 abbrev pub mostAdded : ℕ
 mostAdded = 110000
 

@@ -21,7 +21,7 @@ use Rattle.rules.specs.Polynomials.{instantRefused, angleAt}
 use Rattle.rules.specs.Precession.{precession, precessionAt, obliquity, obliquityAt}
 use Rattle.rules.specs.Arguments.{arguments, argumentsAt}
 use Rattle.rules.specs.Nutation.{nutation, nutationAt}
-use Rattle.rules.specs.Sun.{sunLongitude, sunLongitudeAt}
+use Rattle.rules.specs.Sun.{sunLongitude, sunLongitudeAt, perihelion, perihelionAt}
 use Rattle.rules.specs.Sidereal.{sidereal, siderealAt}
 use Rattle.laws.specs.Units.{within-le, within-of}
 
@@ -83,13 +83,15 @@ pub record EachRefusedOutside (t : Tt) (u : Ut) : Type 0 where
   pub nutation : RefusedOutside Nutated (t .0) (nutationAt t) (Nutated.Refused Refusal.Instant)
       (Nutated.By (nutation t))
   pub sun : RefusedOutside Angle (t .0) (sunLongitudeAt t) (Angle.Refused Refusal.Instant) (Angle.Of (sunLongitude t))
+  pub perihelion : RefusedOutside Angle (t .0) (perihelionAt t) (Angle.Refused Refusal.Instant)
+      (Angle.Of (perihelion t))
   pub sidereal : RefusedOutside Angle (u .0) (siderealAt u) (Angle.Refused Refusal.Instant) (Angle.Of (sidereal u))
 
 never : (r : Refusal) (a : ℤ) → Angle.Refused r ≡ Angle.Of a → ⊥
 never r a e = let z : _≡_ {A = ℕ} 0 1 = cc in omega arith
 
 pub each-refused-outside : (t : Tt) (u : Ut) → EachRefusedOutside t u
-unfolding precessionAt obliquityAt argumentsAt nutationAt sunLongitudeAt siderealAt angleAt
+unfolding precessionAt obliquityAt argumentsAt nutationAt sunLongitudeAt perihelionAt siderealAt angleAt
 each-refused-outside t u = record {
   precession = refused-outside Precessed (t .0) (Precessed.Refused Refusal.Instant) (Precessed.By (precession t))
       (λ e. let z : _≡_ {A = ℕ} 0 1 = cc in omega arith);
@@ -101,6 +103,8 @@ each-refused-outside t u = record {
       (λ e. let z : _≡_ {A = ℕ} 0 1 = cc in omega arith);
   sun = refused-outside Angle (t .0) (Angle.Refused Refusal.Instant) (Angle.Of (sunLongitude t))
       (never Refusal.Instant (sunLongitude t));
+  perihelion = refused-outside Angle (t .0) (Angle.Refused Refusal.Instant) (Angle.Of (perihelion t))
+      (never Refusal.Instant (perihelion t));
   sidereal = refused-outside Angle (u .0) (Angle.Refused Refusal.Instant) (Angle.Of (sidereal u))
       (never Refusal.Instant (sidereal u));
 }

@@ -1,12 +1,12 @@
 -- What every night is known by: each pair is accepted, what is added is small, TT is within a century.
 use mathlib.Core.Path.{_≡_, refl, subst}
 use mathlib.Core.Bool.{Bool, true, false, not, _&&_}
-use Prim.Native.Nat.{ℕ, _*_, _≤_, _^_}
+use Prim.Native.Nat.{ℕ, _+_, _*_, _≤_, _^_}
 use native.Mathlib.Nat.{mul-le-mul, le-trans}
 use native.Mathlib.Omega.{arith}
 use lib.Dec.{T, lit<, lit≤}
-use lib.IntN.{ℤ, pos, natAbs, _+ℤ_, _*ℤ_}
-use Rattle.integers.specs.Size.{abs-add, abs-mul, abs-neg}
+use lib.IntN.{ℤ, pos, negℤ, natAbs, _+ℤ_, _*ℤ_}
+use Rattle.integers.specs.Size.{abs-add, abs-sub, abs-mul, abs-neg}
 use Rattle.rules.specs.declared.Ut.{Ut}
 use Rattle.rules.specs.declared.Tt.{Tt}
 use Rattle.rules.specs.declared.Pair.{Pair}
@@ -19,10 +19,10 @@ use Rattle.rules.specs.Circle.{pair}
 use Rattle.rules.specs.Turning.{Accepted}
 use Rattle.rules.specs.Precession.{obliquityRow, obliquity}
 use Rattle.rules.specs.Nutation.{nutation}
-use Rattle.rules.specs.Sun.{sunLongitude}
+use Rattle.rules.specs.Sun.{sunLongitude, perihelion}
 use Rattle.rules.specs.Sidereal.{sidereal, siderealPolynomial}
-use Rattle.rules.specs.Night.{aberrationConstant, aberrationX, aberrationY, aberration, localSidereal, siteRefused}
-use Rattle.rules.specs.Night.{night}
+use Rattle.rules.specs.Night.{aberrationConstant, eccentricConstant, aberrationX, aberrationY, aberration}
+use Rattle.rules.specs.Night.{localSidereal, siteRefused, night}
 use Rattle.laws.specs.Units.{within-le}
 use Rattle.laws.specs.Rounding.{rnd-under}
 use Rattle.laws.specs.Modulo.{modulo-lt}
@@ -39,23 +39,50 @@ use Rattle.laws.specs.Nutation.{ten-terms}
 pub scaled-le : (k c : ℤ) (m : ℕ) → natAbs k ≤ m → natAbs c ≤ unit → natAbs (rnd (k *ℤ c) unit) ≤ m
 scaled-le k c m hk hc = rnd-under (k *ℤ c) unit m (lit< tt) (rw (abs-mul k c) (omega (arith, mul-le-mul hk hc)))
 
-pub aberrationX-le : (s : Pair) → Sized s → natAbs (aberrationX s) ≤ aberrationConstant
-unfolding aberrationX
-aberrationX-le s h = scaled-le (pos aberrationConstant) (s .sine) aberrationConstant (omega arith) (h .sine-le)
+-- 108,475: the most that bx and by may be
+abbrev pub mostAberration : ℕ
+mostAberration = aberrationConstant + eccentricConstant
 
-pub aberrationY-le : (s : Pair) → Sized s → natAbs (aberrationY s) ≤ aberrationConstant
-unfolding aberrationY
-aberrationY-le s h =
-    rw (abs-neg (rnd (pos aberrationConstant *ℤ s .cosine) unit))
-    (scaled-le (pos aberrationConstant) (s .cosine) aberrationConstant (omega arith) (h .cosine-le))
+-- a part of the circle's, and one of the eccentricity's, each rounded by itself
+abbrev pub ofCircle : ℤ → ℤ
+ofCircle part = rnd (pos aberrationConstant *ℤ part) unit
 
-pub aberration-le : (s e : Pair) → Sized s → Sized e → PartsLe mostAdded (aberration s e)
-unfolding aberration
-aberration-le s e hs he = record {
-  x = omega (arith, aberrationX-le s hs);
-  y = omega (arith, scaled-le (aberrationY s) (e .cosine) aberrationConstant (aberrationY-le s hs) (he .cosine-le));
-  z = omega (arith, scaled-le (aberrationY s) (e .sine) aberrationConstant (aberrationY-le s hs) (he .sine-le));
-}
+abbrev pub ofEccentricity : ℤ → ℤ
+ofEccentricity part = rnd (pos eccentricConstant *ℤ part) unit
+
+pub ofCircle-le : (part : ℤ) → natAbs part ≤ unit → natAbs (ofCircle part) ≤ aberrationConstant
+ofCircle-le part h = scaled-le (pos aberrationConstant) part aberrationConstant (omega arith) h
+
+pub ofEccentricity-le : (part : ℤ) → natAbs part ≤ unit → natAbs (ofEccentricity part) ≤ eccentricConstant
+ofEccentricity-le part h = scaled-le (pos eccentricConstant) part eccentricConstant (omega arith) h
+
+module _ (s p : Pair) (hs : Sized s) (hp : Sized p) where
+  pub aberrationX-le : natAbs (aberrationX s p) ≤ mostAberration
+  unfolding aberrationX
+  aberrationX-le = omega (
+    arith,
+    abs-sub (ofCircle (s .sine)) (ofEccentricity (p .sine)),
+    ofCircle-le (s .sine) (hs .sine-le),
+    ofEccentricity-le (p .sine) (hp .sine-le),
+  )
+
+  pub aberrationY-le : natAbs (aberrationY s p) ≤ mostAberration
+  unfolding aberrationY
+  aberrationY-le = omega (
+    arith,
+    abs-add (negℤ (ofCircle (s .cosine))) (ofEccentricity (p .cosine)),
+    abs-neg (ofCircle (s .cosine)),
+    ofCircle-le (s .cosine) (hs .cosine-le),
+    ofEccentricity-le (p .cosine) (hp .cosine-le),
+  )
+
+  pub aberration-le : (e : Pair) → Sized e → PartsLe mostAdded (aberration s p e)
+  unfolding aberration
+  aberration-le e he = record {
+    x = omega (arith, aberrationX-le);
+    y = omega (arith, scaled-le (aberrationY s p) (e .cosine) mostAberration aberrationY-le (he .cosine-le));
+    z = omega (arith, scaled-le (aberrationY s p) (e .sine) mostAberration aberrationY-le (he .sine-le));
+  }
 
 -- ---- the local sidereal angle
 
@@ -125,7 +152,9 @@ night-fits ut tt site h = record {
   zeta = pair-length _;
   minus-theta = pair-length _;
   z = pair-length _;
-  aberration = aberration-le (pair (sunLongitude tt)) (pair (obliquity tt)) (pair-sized _) (pair-sized _);
+  aberration =
+      aberration-le (pair (sunLongitude tt)) (pair (perihelion tt)) (pair-sized _) (pair-sized _)
+      (pair (obliquity tt)) (pair-sized _);
   minus-epsilon = pair-length _;
   delta-psi = pair-length _;
   true-epsilon = pair-length _;

@@ -25,7 +25,7 @@ use Rattle.rules.specs.Polynomials.{timesTPlus, polynomial}
 use Rattle.rules.specs.Precession.{precession, obliquity}
 use Rattle.rules.specs.Arguments.{arguments}
 use Rattle.rules.specs.Nutation.{termAngle, longitudeProduct, obliquityProduct, total, nutationBy, nutation}
-use Rattle.rules.specs.Sun.{meanLongitude, centreProduct, centreSum, centre, sunLongitude}
+use Rattle.rules.specs.Sun.{meanLongitude, centreProduct, centreSum, centre, sunLongitude, perihelion}
 use Rattle.rules.specs.Sidereal.{siderealPolynomial, sidereal}
 use Rattle.rules.specs.Night.{aberrationX, aberrationY, aberration, localSidereal, night, siteRefused, nightAt, nightOf}
 
@@ -66,7 +66,7 @@ tonight = record {
   zeta = pairOf (+ 1073737212) (+ 3147410);
   «minus_theta» = pairOf (+ 1073738341) (− 2735131);
   z = pairOf (+ 1073737211) (+ 3147693);
-  aberration = direction (+ 423) (− 97890) (− 42433);
+  aberration = direction (− 1312) (− 98269) (− 42598);
   «minus_epsilon» = pairOf (+ 985164275) (− 427051351);
   «delta_psi» = pairOf (+ 1073741824) (+ 32125);
   «true_epsilon» = pairOf (+ 985145387) (+ 427094921);
@@ -89,14 +89,14 @@ turnedBy p n = record {
   «latitude_less_quarter» = p;
 }
 
--- the night of a nutation and a longitude of the Sun, each worked out before
-abbrev nightBy : Nutation → ℤ → Night
-nightBy n sun = record {
+-- the night of a nutation, a longitude of the Sun and one of perihelion, each worked out before
+abbrev nightBy : Nutation → ℤ → ℤ → Night
+nightBy n s p = record {
   tt = ttNow;
   zeta = pair (precession ttNow .zeta);
   «minus_theta» = pair (negℤ (precession ttNow .theta));
   z = pair (precession ttNow .z);
-  aberration = aberration (pair sun) (pair (obliquity ttNow));
+  aberration = aberration (pair s) (pair p) (pair (obliquity ttNow));
   «minus_epsilon» = pair (negℤ (obliquity ttNow));
   «delta_psi» = pair (n .longitude);
   «true_epsilon» = pair (obliquity ttNow +ℤ n .obliquity);
@@ -105,7 +105,7 @@ nightBy n sun = record {
   «latitude_less_quarter» = pair (remainder (here .latitude -ℤ pos quarter));
 }
 
-in-parts : night utNow ttNow here ≡ nightBy (nutation ttNow) (sunLongitude ttNow)
+in-parts : night utNow ttNow here ≡ nightBy (nutation ttNow) (sunLongitude ttNow) (perihelion ttNow)
 unfolding night localSidereal
 in-parts = refl
 
@@ -113,21 +113,34 @@ in-parts = refl
 abbrev nutationTonight : Nutation
 nutationTonight = record { longitude = + 6171244; obliquity = + 9122441 }
 
-parts-are : (nutation ttNow ≡ nutationTonight) × ((sunLongitude ttNow ≡ + 34992817376817)
-    × (nightBy nutationTonight (+ 34992817376817) ≡ tonight))
+-- S and ϖ
+abbrev sunTonight : ℤ
+sunTonight = + 34992817376817
+
+abbrev perihelionTonight : ℤ
+perihelionTonight = + 372197348747
+
+record PartsTonight : Type 0 where
+  nutated : nutation ttNow ≡ nutationTonight
+  sun : sunLongitude ttNow ≡ sunTonight
+  perihelion : perihelion ttNow ≡ perihelionTonight
+  all : nightBy nutationTonight sunTonight perihelionTonight ≡ tonight
+
+parts-are : PartsTonight
 unfolding rnd rndSize modulo remainder rootFrom root square pairSquares partTo pairToLength radianParts squareParts
     stage stages rawSine rawCosine pairOfParts pairToHalf exchangedPair pairToQuarter inQuarter folded pair timesTPlus
     polynomial precession obliquity arguments termAngle longitudeProduct obliquityProduct total nutationBy nutation
-    meanLongitude centreProduct centreSum centre sunLongitude siderealPolynomial sidereal aberrationX aberrationY
-    aberration
-parts-are = (refl, (refl, refl))
+    meanLongitude centreProduct centreSum centre sunLongitude perihelion siderealPolynomial sidereal aberrationX
+    aberrationY aberration
+parts-are = record { nutated = refl; sun = refl; perihelion = refl; all = refl }
 
 -- the night of `here`
 pub night-is : night utNow ttNow here ≡ tonight
 night-is = in-parts
-    ∙ ap (λ n. nightBy n (sunLongitude ttNow)) (parts-are .0)
-    ∙ ap (nightBy nutationTonight) (parts-are .1 .0)
-    ∙ parts-are .1 .1
+    ∙ ap (λ n. nightBy n (sunLongitude ttNow) (perihelion ttNow)) (parts-are .nutated)
+    ∙ ap (λ s. nightBy nutationTonight s (perihelion ttNow)) (parts-are .sun)
+    ∙ ap (nightBy nutationTonight sunTonight) (parts-are .perihelion)
+    ∙ parts-are .all
 
 pub made-ready : nightOf evening here ≡ Prepared.For tonight
 unfolding nightOf nightAt siteRefused between within

@@ -26,7 +26,7 @@ use Rattle.laws.specs.SamplePlace.{Steps, place-of-steps, stands}
 -- ---- at the pole of date
 
 abbrev pub poleStar : Star
-poleStar = record { ra = + 10294758035; declination = + 323471390485; «ra_motion» = + 0; «declination_motion» = + 0 }
+poleStar = record { ra = + 10315798983; declination = + 323471053674; «ra_motion» = + 0; «declination_motion» = + 0 }
 
 -- it stands due north: that azimuth of nought is an angle
 abbrev pub polePlace : Place
@@ -47,7 +47,7 @@ abbrev pub zenithNight : Night
 zenithNight = tonightBy (pairOf (+ 823587028) (− 688930993))
 
 abbrev pub zenithStar : Star
-zenithStar = record { ra = + 476318619300; declination = + 180659831600; «ra_motion» = + 0; «declination_motion» = + 0 }
+zenithStar = record { ra = + 476318159297; declination = + 180659983868; «ra_motion» = + 0; «declination_motion» = + 0 }
 
 abbrev pub zenithPlace : Place
 zenithPlace = record {
@@ -77,22 +77,22 @@ poleAndZenith = record {
 
 record AllSteps : Type 0 where
   pole : Steps tonight poleStar
-      (direction (+ 2748325) (+ 137284) (+ 1073738298))
-      (direction (+ 12354) (+ 145376) (+ 1073741815))
+      (direction (+ 2750062) (+ 137652) (+ 1073738294))
+      (direction (+ 14089) (+ 145755) (+ 1073741815))
       (direction (+ 12778) (+ 47488) (+ 1073741823))
       (direction (+ 0) (+ 0) (+ 1073741824))
       (direction (− 688927000) (+ 0) (+ 823590368))
       polePlace
   zenith : Steps zenithNight zenithStar
-      (direction (− 462827091) (+ 508449054) (+ 824737624))
-      (direction (− 467899375) (+ 505720724) (+ 823552202))
-      (direction (− 467933307) (+ 505659959) (+ 823570235))
+      (direction (− 462825547) (+ 508449636) (+ 824738132))
+      (direction (− 467897836) (+ 505721316) (+ 823552713))
+      (direction (− 467933307) (+ 505659960) (+ 823570235))
       (direction (− 467956988) (+ 505610690) (+ 823587028))
       (direction (+ 0) (+ 0) (+ 1073741824))
       zenithPlace
   both : Steps poleNight poleStar
-      (direction (+ 2748325) (+ 137284) (+ 1073738298))
-      (direction (+ 12354) (+ 145376) (+ 1073741815))
+      (direction (+ 2750062) (+ 137652) (+ 1073738294))
+      (direction (+ 14089) (+ 145755) (+ 1073741815))
       (direction (+ 12778) (+ 47488) (+ 1073741823))
       (direction (+ 0) (+ 0) (+ 1073741824))
       (direction (+ 0) (+ 0) (+ 1073741824))

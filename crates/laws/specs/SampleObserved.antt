@@ -26,7 +26,7 @@ frostyWeather = record {
   «has_temperature» = true;
 }
 
-pub sirius-observed : observedPlace evening sirius here frostyWeather ≡ Observed.At siriusPlace (+ 63990733251)
+pub sirius-observed : observedPlace evening sirius here frostyWeather ≡ Observed.At siriusPlace (+ 63990822289)
 unfolding between rnd rndSize modulo rootFrom root square pairSquares partTo pairToLength radianParts squareParts
     stage stages rawSine rawCosine pairOfParts pairToHalf exchangedPair pairToQuarter inQuarter folded pair withSign
     finite numerator denominator lies tenths isPressure isTemperature inRange mended recorded argument notBelowNought

@@ -76,27 +76,27 @@ equinox = record { ra = + 0; declination = + 0; «ra_motion» = + 0; «declinati
 -- its place
 abbrev pub siriusPlace : Place
 siriusPlace = record {
-  ra = Read.Angle (+ 365681449792);
-  declination = − 60318875478;
-  azimuth = Read.Angle (+ 760999641899);
-  altitude = + 63789202431;
+  ra = Read.Angle (+ 365681806136);
+  declination = − 60318907174;
+  azimuth = Read.Angle (+ 760999294392);
+  altitude = + 63789291757;
 }
 
 -- its place
 abbrev pub equinoxPlace : Place
 equinoxPlace = record {
-  ra = Read.Angle (+ 1196121190);
-  declination = + 519770523;
-  azimuth = Read.Angle (+ 1098507906186);
-  altitude = − 91944707618;
+  ra = Read.Angle (+ 1196050306);
+  declination = + 519739595;
+  azimuth = Read.Angle (+ 1098507954979);
+  altitude = − 91944771011;
 }
 
 sirius-steps : Steps tonight sirius
     (direction (− 201196050) (+ 1008444631) (− 309000131))
     (direction (− 206317076) (+ 1007250048) (− 309519161))
-    (direction (− 206331963) (+ 1007226897) (− 309584566))
-    (direction (− 206355928) (+ 1007234924) (− 309542475))
-    (direction (+ 873118475) (− 532719333) (+ 326796185))
+    (direction (− 206333694) (+ 1007226495) (− 309584724))
+    (direction (− 206357659) (+ 1007234521) (− 309542633))
+    (direction (+ 873119251) (− 532717789) (+ 326796628))
     siriusPlace
 unfolding rnd rndSize modulo remainder rootFrom root square squares partTo toLength radianParts squareParts stage
     stages rawSine rawCosine pairSquares pairToLength pairOfParts pairToHalf exchangedPair pairToQuarter inQuarter
@@ -115,9 +115,9 @@ sirius-steps = record {
 equinox-steps : Steps tonight equinox
     (direction (+ 1073741824) (+ 0) (+ 0))
     (direction (+ 1073719888) (+ 6295066) (+ 2735119))
-    (direction (+ 1073720564) (+ 6197177) (+ 2692687))
-    (direction (+ 1073720362) (+ 6226531) (+ 2705739))
-    (direction (− 557644263) (− 792239349) (− 462937571))
+    (direction (+ 1073720567) (+ 6196808) (+ 2692526))
+    (direction (+ 1073720364) (+ 6226162) (+ 2705578))
+    (direction (− 557644370) (− 792239101) (− 462937869))
     equinoxPlace
 unfolding rnd rndSize modulo remainder rootFrom root square squares partTo toLength radianParts squareParts stage
     stages rawSine rawCosine pairSquares pairToLength pairOfParts pairToHalf exchangedPair pairToQuarter inQuarter

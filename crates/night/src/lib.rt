@@ -58,12 +58,14 @@ pub fn night_at(ut: Ut, tt: Tt, site: Site) -> Night
     let n = nutation::nutation_of(tt);
     let epsilon = precession::obliquity_of(tt);
     let mean = circle::pair(epsilon);
+    let sun = circle::pair(sun::sun_longitude_of(tt));
+    let perihelion = circle::pair(sun::perihelion::perihelion_of(tt));
     Night {
         tt,
         zeta: circle::pair(p.zeta),
         minus_theta: opposite_of(circle::pair(p.theta)),
         z: circle::pair(p.z),
-        aberration: aberration(circle::pair(sun::sun_longitude_of(tt)), mean),
+        aberration: aberration(sun, perihelion, mean),
         minus_epsilon: opposite_of(mean),
         delta_psi: circle::pair(n.longitude),
         true_epsilon: circle::pair(epsilon + n.obliquity),

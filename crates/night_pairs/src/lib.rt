@@ -19,6 +19,9 @@ ghost use Rattle.night_pairs.specs.Parts.{opposite, localAngle};
 // The constant of aberration, 20.49552″ (source 000, section 4.2.1), in parts of 2^30 of a radian.
 const ABERRATION: i64 = 106692;
 
+// The same times the eccentricity of the Earth's orbit.
+const ECCENTRIC: i64 = 1783;
+
 // The pair of the opposite angle.
 pub fn opposite_of(p: Pair) -> Pair
     requires { ⌜ Sized p ⌝ }
@@ -38,34 +41,37 @@ fn scaled(k: i64, part: i64) -> i64
     rounding::rnd_by_unit(k * part)
 }
 
-// 4. What aberration adds, of the pairs of the Sun's longitude and of ε.
-pub fn aberration(s: Pair, e: Pair) -> Direction
+// 4. What aberration adds, of the pairs of the Sun's longitude, of ϖ and of ε.
+pub fn aberration(s: Pair, p: Pair, e: Pair) -> Direction
     requires { ⌜ Sized s ⌝ }
+    requires { ⌜ Sized p ⌝ }
     requires { ⌜ Sized e ⌝ }
-    ensures { λ r. ⌜ r ≡ rule.aberration s e ⌝ }
+    ensures { λ r. ⌜ r ≡ rule.aberration s p e ⌝ }
 {
-    let by = aberration_y(s);
+    let by = aberration_y(s, p);
     Direction {
-        x: aberration_x(s),
+        x: aberration_x(s, p),
         y: scaled(by, e.cosine),
         z: scaled(by, e.sine),
     }
 }
 
-// 4. bx, of the pair of the Sun's longitude.
-pub fn aberration_x(s: Pair) -> i64
+// 4. bx, of the pairs of the Sun's longitude and of ϖ.
+pub fn aberration_x(s: Pair, p: Pair) -> i64
     requires { ⌜ Sized s ⌝ }
-    ensures { λ r. ⌜ r ≡ rule.aberrationX s ⌝ }
+    requires { ⌜ Sized p ⌝ }
+    ensures { λ r. ⌜ r ≡ rule.aberrationX s p ⌝ }
 {
-    scaled(ABERRATION, s.sine)
+    scaled(ABERRATION, s.sine) - scaled(ECCENTRIC, p.sine)
 }
 
 // 4. by, the same, before ε.
-pub fn aberration_y(s: Pair) -> i64
+pub fn aberration_y(s: Pair, p: Pair) -> i64
     requires { ⌜ Sized s ⌝ }
-    ensures { λ r. ⌜ r ≡ rule.aberrationY s ⌝ }
+    requires { ⌜ Sized p ⌝ }
+    ensures { λ r. ⌜ r ≡ rule.aberrationY s p ⌝ }
 {
-    -scaled(ABERRATION, s.cosine)
+    -scaled(ABERRATION, s.cosine) + scaled(ECCENTRIC, p.cosine)
 }
 
 // 6. The pair of minus the local sidereal angle: Δψ, the cosine of ε, the site's longitude.

@@ -16,7 +16,7 @@ use Rattle.rules.specs.Dates as dates
 use Rattle.rules.specs.Precession.{precessionAt, obliquityAt}
 use Rattle.rules.specs.Arguments.{argumentsAt}
 use Rattle.rules.specs.Nutation.{nutationAt}
-use Rattle.rules.specs.Sun.{sunLongitudeAt}
+use Rattle.rules.specs.Sun.{sunLongitudeAt, perihelionAt}
 use Rattle.rules.specs.Sidereal.{siderealAt}
 use Rattle.rules.specs.Circle as circle
 use Rattle.rules.specs.Reading as readings
@@ -37,6 +37,7 @@ use Rattle.precession.proofs.obliquity as obliquity
 use Rattle.arguments.proofs.arguments as arguments
 use Rattle.nutation.proofs.nutation as nutation
 use Rattle.sun.proofs.sun_longitude as sun-longitude
+use Rattle.sun.proofs.perihelion.perihelion as perihelion
 use Rattle.sidereal.proofs.sidereal as sidereal
 use Rattle.circle.proofs.pair as pair
 use Rattle.reading.proofs.reading as reading
@@ -88,6 +89,10 @@ module _ {M : Type 1} (𝓤 : URA M) (H : Heap 𝓤) (A : Atoms 𝓤) (mem : Mem
   pub sun-longitude-answers : Tells 𝓤 sun-longitude.ended (sun-longitude.clauses 𝓤 H A mem run)
       (λ κs passed a x. a ≡ sunLongitudeAt (passed .0))
   sun-longitude-answers κs passed g a x = id⊢ 𝓤 _
+
+  pub perihelion-answers : Tells 𝓤 perihelion.ended (perihelion.clauses 𝓤 H A mem run)
+      (λ κs passed a x. a ≡ perihelionAt (passed .0))
+  perihelion-answers κs passed g a x = id⊢ 𝓤 _
 
   pub sidereal-answers : Tells 𝓤 sidereal.ended (sidereal.clauses 𝓤 H A mem run)
       (λ κs passed a x. a ≡ siderealAt (passed .0))

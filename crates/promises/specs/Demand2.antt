@@ -26,7 +26,7 @@ use Rattle.rules.specs.Polynomials.{polynomial, exactTimesCube}
 use Rattle.rules.specs.Precession.{precession, zetaRow, zRow, thetaRow, obliquity}
 use Rattle.rules.specs.Precession.{obliquityRow}
 use Rattle.rules.specs.Arguments.{arguments, moonRow, sunRow, latitudeRow, elongationRow, nodeRow}
-use Rattle.rules.specs.Sun.{meanLongitude, meanLongitudeRow, firstRow, secondRow, thirdRow}
+use Rattle.rules.specs.Sun.{meanLongitude, meanLongitudeRow, firstRow, secondRow, thirdRow, perihelion, perihelionRow}
 use Rattle.rules.specs.Nutation.{longitudeAmplitude, obliquityAmplitude}
 use Rattle.rules.specs.Sidereal.{siderealPolynomial, siderealRow}
 use Rattle.rules.specs.Reading.{reading}
@@ -48,7 +48,7 @@ pub polynomial-within-2 : (cs : List ℤ) (t : ℤ) → length cs ≤ 4 → natA
     → Within2 (polynomial cs t) cs t
 polynomial-within-2 cs t h k = polynomial-near cs t h k
 
--- and each that document 01 names, by its row
+-- and each that documents 01 and 02 name, by its row
 pub record PolynomialsWithin2 (t : Tt) (u : Ut) : Type 0 where
   pub zeta : Within2 (precession t .zeta) zetaRow (t .0)
   pub z : Within2 (precession t .z) zRow (t .0)
@@ -65,6 +65,8 @@ pub record PolynomialsWithin2 (t : Tt) (u : Ut) : Type 0 where
   pub first : Within2 (polynomial firstRow (t .0)) firstRow (t .0)
   pub second : Within2 (polynomial secondRow (t .0)) secondRow (t .0)
   pub third : Within2 (polynomial thirdRow (t .0)) thirdRow (t .0)
+  -- 02, C-14: ϖ
+  pub perihelion : Within2 (perihelion t) perihelionRow (t .0)
   -- the amplitudes of a term of nutation
   pub longitude-amplitude : (m : Term)
       → Within2 (polynomial (longitudeAmplitude m) (t .0)) (longitudeAmplitude m) (t .0)
@@ -75,7 +77,7 @@ pub record PolynomialsWithin2 (t : Tt) (u : Ut) : Type 0 where
 
 pub each-polynomial-within-2 : (t : Tt) (u : Ut) → natAbs (t .0) ≤ century → natAbs (u .0) ≤ century
     → PolynomialsWithin2 t u
-unfolding precession obliquity arguments meanLongitude siderealPolynomial
+unfolding precession obliquity arguments meanLongitude perihelion siderealPolynomial
 each-polynomial-within-2 t u h k = record {
   zeta = polynomial-within-2 zetaRow (t .0) (lit≤ tt) h;
   z = polynomial-within-2 zRow (t .0) (lit≤ tt) h;
@@ -90,6 +92,7 @@ each-polynomial-within-2 t u h k = record {
   first = polynomial-within-2 firstRow (t .0) (lit≤ tt) h;
   second = polynomial-within-2 secondRow (t .0) (lit≤ tt) h;
   third = polynomial-within-2 thirdRow (t .0) (lit≤ tt) h;
+  perihelion = polynomial-within-2 perihelionRow (t .0) (lit≤ tt) h;
   longitude-amplitude = λ m. polynomial-within-2 (longitudeAmplitude m) (t .0) (lit≤ tt) h;
   obliquity-amplitude = λ m. polynomial-within-2 (obliquityAmplitude m) (t .0) (lit≤ tt) h;
   sidereal = polynomial-within-2 siderealRow (u .0) (lit≤ tt) k;

@@ -26,7 +26,7 @@ use Rattle.rules.specs.Precession.{precession, precessionAt, zetaRow, zRow, the
 use Rattle.rules.specs.Precession.{obliquity, obliquityAt, obliquityRow}
 use Rattle.rules.specs.Arguments.{arguments, argumentsAt, moonRow, sunRow, latitudeRow, elongationRow, nodeRow}
 use Rattle.rules.specs.Sun.{meanLongitude, meanLongitudeRow, firstRow, secondRow, thirdRow, centreProduct, centreSum}
-use Rattle.rules.specs.Sun.{centre, sunLongitude, sunLongitudeAt}
+use Rattle.rules.specs.Sun.{centre, sunLongitude, sunLongitudeAt, perihelion, perihelionAt, perihelionRow}
 use Rattle.rules.specs.Sidereal.{siderealPolynomial, sidereal, siderealAt, siderealRow}
 use Rattle.rules.specs.Nutation.{terms, termAngle, longitudeAmplitude, obliquityAmplitude, total}
 use Rattle.rules.specs.Nutation.{longitudeProduct, obliquityProduct, nutationBy, nutation, nutationAt}
@@ -132,6 +132,14 @@ sun-within-2 t a e =
       sun-near = n .sun;
       made = sym (b .0);
     }
+
+-- ---- the longitude of perihelion
+
+pub perihelion-within-2 : (t : Tt) (a : ℤ) → perihelionAt t ≡ Angle.Of a → Within2 a perihelionRow (t .0)
+unfolding perihelionAt
+perihelion-within-2 t a e =
+    let b = answered-angle (t .0) (perihelion t) a e in
+    subst (λ a. Within2 a perihelionRow (t .0)) (b .0) (of-tt t (b .1) .perihelion)
 
 -- ---- the sidereal angle
 

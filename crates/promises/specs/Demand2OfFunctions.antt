@@ -31,6 +31,7 @@ use Rattle.rules.specs.Answers.{hasAngle, orNought, flag, readAnswer, placeNumb
 use Rattle.rules.specs.Units.{unit}
 use Rattle.rules.specs.Series.{whole, radian, series}
 use Rattle.rules.specs.Precession.{obliquityRow}
+use Rattle.rules.specs.Sun.{perihelionRow}
 use Rattle.rules.specs.Reading.{reading, Reads}
 use Rattle.rules.specs.Place as places
 use Rattle.laws.specs.Reading as readings
@@ -50,6 +51,7 @@ use Rattle.precession.proofs.obliquity as obliquity
 use Rattle.arguments.proofs.arguments as arguments
 use Rattle.nutation.proofs.nutation as nutation
 use Rattle.sun.proofs.sun_longitude as sun-longitude
+use Rattle.sun.proofs.perihelion.perihelion as perihelion
 use Rattle.sidereal.proofs.sidereal as sidereal
 use Rattle.reading.proofs.reading as reading
 use Rattle.place.proofs.place as place
@@ -122,6 +124,11 @@ module _ {M : Type 1} (𝓤 : URA M) (H : Heap 𝓤) (A : Atoms 𝓤) (mem : Mem
       (λ κs passed a x. (b : ℤ) → a ≡ Angle.Of b → within.SunWithin2 (passed .0) b)
   sun-longitude-within-2 κs passed g a x = so-told 𝓤 (answers.sun-longitude-answers 𝓤 H A mem run κs passed g a x)
       (λ e b of. within.sun-within-2 (passed .0) b (sym e ∙ of))
+
+  pub perihelion-within-2 : Tells 𝓤 perihelion.ended (perihelion.clauses 𝓤 H A mem run)
+      (λ κs passed a x. (b : ℤ) → a ≡ Angle.Of b → Within2 b perihelionRow (passed .0 .0))
+  perihelion-within-2 κs passed g a x = so-told 𝓤 (answers.perihelion-answers 𝓤 H A mem run κs passed g a x)
+      (λ e b of. within.perihelion-within-2 (passed .0) b (sym e ∙ of))
 
   pub sidereal-within-2 : Tells 𝓤 sidereal.ended (sidereal.clauses 𝓤 H A mem run)
       (λ κs passed a x. (b : ℤ) → a ≡ Angle.Of b → within.SiderealWithin2 (passed .0) b)

@@ -8,6 +8,7 @@ pub mod Demand1
 pub mod Demand2
 pub mod Demand2Answers
 pub mod Demand2OfFunctions
+pub mod Aberration
 pub mod NoAngle
 pub mod NoAnglePrinted
 pub mod NoAngleOfFunctions

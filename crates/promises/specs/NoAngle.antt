@@ -28,7 +28,7 @@ use Rattle.rules.specs.Stars.{starRefused}
 use Rattle.rules.specs.Place.{apparent, overhead, placeIn, place}
 use Rattle.rules.specs.NightList.{entryOf, worked}
 use Rattle.laws.specs.Instants.{tt-within}
-use Rattle.laws.specs.Night.{NightFits, night-fits}
+use Rattle.laws.specs.Night.{night-fits}
 use Rattle.laws.specs.Place.{in-night}
 use Rattle.laws.specs.NoAngle as law
 use Rattle.laws.specs.PlaceAnswers as answers
@@ -37,8 +37,7 @@ use Rattle.laws.specs.Marks as marks
 use Rattle.laws.specs.SampleNight.{evening, here}
 use Rattle.laws.specs.SampleNoAngle.{poleStar, polePlace, zenithStar, zenithSite, zenithPlace, poleSite, poleAndZenith}
 use Rattle.laws.specs.SampleNoAngle as samples
-use Rattle.night_list_checks.specs.Plans.{PreparedFits}
-use Rattle.night_list.specs.Fits.{night-of-fits}
+use Rattle.night_list.specs.Fits.{ready-fits}
 
 -- ---- a reading
 
@@ -106,11 +105,6 @@ module _ (n : Night) (e : Entry) where
 
   pub mark-5-exactly : worked n e .mark ≡ 5 ↔ starRefused (e .star) ≡ true
   mark-5-exactly = marks.mark-5-iff n e
-
--- every night that a list is worked in fits the laws of a place
-ready-fits : (m : Moment) (site : Site) (n : Night) → nightOf m site ≡ Prepared.For n → NightFits n
-unfolding PreparedFits
-ready-fits m site n e = subst PreparedFits e (night-of-fits m site)
 
 -- "with nought in the angle that has none": in every night that is made ready, an entry that is filled tells its place
 -- again, so that no such nought is taken for an angle

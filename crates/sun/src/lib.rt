@@ -1,5 +1,7 @@
 // The Sun's longitude, of TT.
 
+pub mod perihelion;
+
 use arguments::sun_of;
 use circle::pair;
 use polynomials::instant_refused;

@@ -9,16 +9,17 @@ use Rattle.rules.specs.Refusals.{Answer, given, refused}
 use Rattle.rules.specs.Polynomials.{instantRefused}
 use Rattle.rules.specs.Circle.{pair}
 use Rattle.rules.specs.Precession.{obliquity}
-use Rattle.rules.specs.Sun.{sunLongitude}
+use Rattle.rules.specs.Sun.{sunLongitude, perihelion}
 use Rattle.rules.specs.Night.{aberrationX, aberrationY, aberration}
 use Rattle.tests_functions.specs.declared.aberration.TestsAberration.{TestsAberration}
 
--- bx and by of the pair of S, then what is added, of the pairs of S and ε
+-- bx and by of the pairs of S and ϖ, then what is added, of the pairs of S, ϖ and ε
 unfoldable pub aberrationGiven : Tt → Answer
 aberrationGiven t =
     let s = pair (sunLongitude t) in
-    let added = aberration s (pair (obliquity t)) in
-    given (aberrationX s ∷ aberrationY s ∷ added .x ∷ added .y ∷ added .z ∷ [])
+    let p = pair (perihelion t) in
+    let added = aberration s p (pair (obliquity t)) in
+    given (aberrationX s p ∷ aberrationY s p ∷ added .x ∷ added .y ∷ added .z ∷ [])
 
 -- or refusal 12
 unfoldable pub aberrationAt : Tt → Answer

@@ -45,12 +45,13 @@ fn given_at(t: Tt) -> TestsAberration
     ensures { λ r. ⌜ r ≡ testsAberration (aberrationGiven t) ⌝ }
 {
     let sun = pair(sun::sun_longitude_of(t));
+    let perihelion = pair(sun::perihelion::perihelion_of(t));
     let mean = pair(precession::obliquity_of(t));
-    let added = night_pairs::aberration(sun, mean);
+    let added = night_pairs::aberration(sun, perihelion, mean);
     TestsAberration {
         refused: 0,
-        bx: night_pairs::aberration_x(sun),
-        by: night_pairs::aberration_y(sun),
+        bx: night_pairs::aberration_x(sun, perihelion),
+        by: night_pairs::aberration_y(sun, perihelion),
         x: added.x,
         y: added.y,
         z: added.z,

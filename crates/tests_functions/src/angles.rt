@@ -10,7 +10,7 @@ ghost use mathlib.Core.Path.{_≡_};
 ghost use Rattle.rules.specs.Answers.{angleAnswer};
 ghost use Rattle.tests_functions.specs.Angles.{testsAngle};
 ghost use Rattle.rules.specs.Precession.{obliquityAt};
-ghost use Rattle.rules.specs.Sun.{sunLongitudeAt, meanLongitude};
+ghost use Rattle.rules.specs.Sun.{sunLongitudeAt, meanLongitude, perihelionAt};
 ghost use Rattle.rules.specs.Sidereal.{siderealAt, siderealPolynomial};
 ghost use Rattle.tests_functions.specs.InstantsGiven.{inTt, inUt};
 ghost use Rattle.rules.specs.Polynomials.{angleAt};
@@ -51,6 +51,14 @@ pub extern "C" fn tests_sun(tt: i64) -> TestsAngle
     ensures { λ r. ⌜ r ≡ testsAngle (angleAnswer (sunLongitudeAt (inTt tt))) ⌝ }
 {
     angle_out(sun::sun_longitude(Tt(tt)))
+}
+
+// The longitude of perihelion at a TT instant.
+#[no_mangle]
+pub extern "C" fn tests_perihelion(tt: i64) -> TestsAngle
+    ensures { λ r. ⌜ r ≡ testsAngle (angleAnswer (perihelionAt (inTt tt))) ⌝ }
+{
+    angle_out(sun::perihelion::perihelion(Tt(tt)))
 }
 
 // The sidereal angle at a UT instant.

@@ -88,6 +88,8 @@ exported! {
     SUN = tests_sun(tt: i64) -> (refused, angle);
     /// The Sun's mean longitude.
     MEAN_LONGITUDE = tests_mean_longitude(tt: i64) -> (refused, angle);
+    /// The longitude of perihelion, ϖ.
+    PERIHELION = tests_perihelion(tt: i64) -> (refused, angle);
     /// bx and by of the aberration, and the three numbers that it adds.
     ABERRATION = tests_aberration(tt: i64) -> (refused, bx, by, x, y, z);
     /// The sidereal angle at a UT instant.

@@ -19,14 +19,14 @@ pub struct Sample {
 }
 
 const NORTH: Sample =
-    Sample { latitude: POLE, ra: 10_294_758_035, declination: 323_471_390_485, has: [0, 0] };
+    Sample { latitude: POLE, ra: 10_315_798_983, declination: 323_471_053_674, has: [0, 0] };
 const SOUTH: Sample =
-    Sample { latitude: POLE, ra: 643_610_219_813, declination: -323_471_986_802, has: [0, 0] };
+    Sample { latitude: POLE, ra: 643_579_742_410, declination: -323_472_318_850, has: [0, 0] };
 
 pub const ZENITH: Sample =
-    Sample { latitude: 180_315_000_000, ra: 476_318_619_300, declination: 180_659_831_600, has: [1, 0] };
+    Sample { latitude: 180_315_000_000, ra: 476_318_159_297, declination: 180_659_983_868, has: [1, 0] };
 const NADIR: Sample =
-    Sample { latitude: 180_318_000_000, ra: 1_124_358_262_935, declination: -180_673_702_498, has: [1, 0] };
+    Sample { latitude: 180_318_000_000, ra: 1_124_358_722_813, declination: -180_673_550_119, has: [1, 0] };
 /// At the pole of date, and seen from where it has an azimuth, which is 0.
 pub const AT_POLE: Sample = Sample { latitude: 180_316_000_000, has: [0, 1], ..NORTH };
 /// The same star, over the pole.

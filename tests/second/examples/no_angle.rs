@@ -1,6 +1,7 @@
 //! Looks for stars that stand exactly where an angle is lacking: at the zenith or the nadir of a site, at a pole of
 //! date. Where a rule of the place changes, the stars of tests/second/tests/no_angle.rs, tests/bridge/src/samples.rs,
-//! tests/places/transcript.sh, tests/c and firmware/zenith.slt are found anew by this.
+//! tests/places/transcript.sh, tests/c, firmware/zenith.slt and crates/laws/specs/SampleNoAngle.antt are found anew by
+//! this.
 //!
 //!     cargo run --release --package second --example no_angle -- YEAR MONTH DAY HOUR MINUTE SECOND LATITUDE LONGITUDE
 //!

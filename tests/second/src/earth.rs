@@ -1,4 +1,5 @@
-//! Document 01, "Polynomials in time": precession, obliquity, nutation and the Sun at a TT instant, sidereal time at a UT one.
+//! Document 01, "Polynomials in time": precession, obliquity, nutation and the Sun at a TT instant, sidereal time at a
+//! UT one; document 02, "Aberration of a real orbit": ϖ at a TT instant.
 
 use crate::circle::pair;
 use crate::dates::{Tt, Ut};
@@ -77,6 +78,12 @@ pub fn sun(tt: Tt) -> Result<Whole, Refusal> {
         + polynomial(&[71974800, -363600], t) * pair(2 * l1).sine
         + polynomial(&[1044000], t) * pair(3 * l1).sine;
     Ok(mean_longitude(tt)? + rnd(centre, UNIT))
+}
+
+/// ϖ, not reduced.
+pub fn perihelion(Tt(t): Tt) -> Result<Whole, Refusal> {
+    check_instant(t)?;
+    Ok(polynomial(&[370574460000, 6190056000, 1656000], t))
 }
 
 /// The sidereal polynomial alone (Aoki 1982), before the rest is added and C taken out.

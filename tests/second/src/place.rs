@@ -1,9 +1,9 @@
 //! Document 01, "Turns, readings, place": the place of a star, in six steps; amended by document 02, "Say so when there
-//! is no azimuth".
+//! is no azimuth" and "Aberration of a real orbit".
 
-use crate::circle::pair;
+use crate::circle::{pair, Pair};
 use crate::dates::{instants, Moment, Tt, Ut};
-use crate::earth::{nutation, obliquity, precession, sidereal, sun, Nutation, Precession};
+use crate::earth::{nutation, obliquity, perihelion, precession, sidereal, sun, Nutation, Precession};
 use crate::reading::{height, reading};
 use crate::refusals::{self, unless, Refusal};
 use crate::rounding::rnd;
@@ -94,11 +94,17 @@ fn moved(star: Star, Tt(t): Tt) -> Result<Direction, Refusal> {
     turns(start, &[(2, -declination % CIRCLE), (3, right_ascension % CIRCLE)])
 }
 
-/// 4. Aberration, circular orbit, with S the Sun's longitude: bx = Rnd(106692 sin S/2^30),
-/// by = −Rnd(106692 cos S/2^30).
+/// 4. Aberration, with S the Sun's longitude: bx and by.
 pub fn aberration(tt: Tt) -> Result<(Whole, Whole), Refusal> {
-    let of_sun = pair(sun(tt)?);
-    Ok((rnd(106_692 * of_sun.sine, UNIT), -rnd(106_692 * of_sun.cosine, UNIT)))
+    Ok(aberration_of(pair(sun(tt)?), pair(perihelion(tt)?)))
+}
+
+/// bx = Rnd(106692 sin S/2^30), by = −Rnd(106692 cos S/2^30). The step takes the eccentricity: bx loses
+/// Rnd(1783 sin ϖ/2^30) and by gains Rnd(1783 cos ϖ/2^30).
+pub fn aberration_of(sun: Pair, perihelion: Pair) -> (Whole, Whole) {
+    let bx = rnd(106_692 * sun.sine, UNIT) - rnd(1_783 * perihelion.sine, UNIT);
+    let by = -rnd(106_692 * sun.cosine, UNIT) + rnd(1_783 * perihelion.cosine, UNIT);
+    (bx, by)
 }
 
 /// 4. What is added: (bx, Rnd(by cos ε/2^30), Rnd(by sin ε/2^30)).

@@ -33,10 +33,10 @@ const fn star(right_ascension: Whole, declination: Whole) -> Star {
 }
 
 /// Each stands that evening exactly where its name says; the first over `AT_15`, the second under `AT_18`.
-const ZENITH_STAR: Star = star(476_318_619_300, 180_659_831_600);
-const NADIR_STAR: Star = star(1_124_358_262_935, -180_673_702_498);
-const NORTH_POLE_STAR: Star = star(10_294_758_035, 323_471_390_485);
-const SOUTH_POLE_STAR: Star = star(643_610_219_813, -323_471_986_802);
+const ZENITH_STAR: Star = star(476_318_159_297, 180_659_983_868);
+const NADIR_STAR: Star = star(1_124_358_722_813, -180_673_550_119);
+const NORTH_POLE_STAR: Star = star(10_315_798_983, 323_471_053_674);
+const SOUTH_POLE_STAR: Star = star(643_579_742_410, -323_472_318_850);
 
 /// The stars with a site and what their places lack there: the right ascension, the azimuth.
 const SAMPLES: [(Star, Site, [bool; 2]); 8] = [

@@ -15,7 +15,7 @@ use Rattle.rules.specs.Rounding.{remainder}
 use Rattle.rules.specs.Circle.{pair}
 use Rattle.rules.specs.Precession.{precession, obliquity}
 use Rattle.rules.specs.Nutation.{nutation}
-use Rattle.rules.specs.Sun.{sunLongitude}
+use Rattle.rules.specs.Sun.{sunLongitude, perihelion}
 use Rattle.rules.specs.Night.{aberration, localSidereal, night}
 use Rattle.laws.specs.Angles.{pair-sized, pair-opposite}
 use Rattle.laws.specs.Nutation.{ten-terms}
@@ -75,24 +75,44 @@ module _ (c : tie.After-pair) where
   cosine-holds : Holds (bits (c .pair .result .cosine)) (pair (obliquity tt-of) .cosine) unit
   cosine-holds = got (ap (λ p. p .cosine) mean-is) (pair-sized _ .cosine-le) tt
 
--- ---- step 3
+-- ---- the pairs of S and ϖ
 
 module _ (c : tie.After-pair2) where
-  abbrev mean-of-zeta : tie.After-pair
-  mean-of-zeta = c .before .before
+  abbrev mean-of-sun : tie.After-pair
+  mean-of-sun = c .before .before
 
-  zeta-is : c .pair2 .result ≡ pair (precession (tt-of mean-of-zeta) .zeta)
-  zeta-is =
-      rw (toZ-ofZ (sfits-of (c .before .struct-told .given .0 .1))) at (c .pair2 .ensures)
-      ∙ ap (λ p. pair (p .zeta)) (precession-at mean-of-zeta .precession-of .ensures)
+  sun-is : c .pair2 .result ≡ pair (sunLongitude (tt-of mean-of-sun))
+  sun-is =
+      let sun = c .before .sun-longitude-of in
+      rw (held64 (sun .result) (sun .ok) ∙ sun .ensures) at (c .pair2 .ensures)
 
 module _ (c : tie.After-pair3) where
+  abbrev mean-of-perihelion : tie.After-pair
+  mean-of-perihelion = mean-of-sun (c .before .before)
+
+  perihelion-is : c .pair3 .result ≡ pair (perihelion (tt-of mean-of-perihelion))
+  perihelion-is =
+      let angle = c .before .perihelion-of in
+      rw (held64 (angle .result) (angle .ok) ∙ angle .ensures) at (c .pair3 .ensures)
+
+-- ---- step 3
+
+module _ (c : tie.After-pair4) where
+  abbrev mean-of-zeta : tie.After-pair
+  mean-of-zeta = mean-of-perihelion (c .before .before)
+
+  zeta-is : c .pair4 .result ≡ pair (precession (tt-of mean-of-zeta) .zeta)
+  zeta-is =
+      rw (toZ-ofZ (sfits-of (c .before .struct-told .given .0 .1))) at (c .pair4 .ensures)
+      ∙ ap (λ p. pair (p .zeta)) (precession-at mean-of-zeta .precession-of .ensures)
+
+module _ (c : tie.After-pair5) where
   abbrev mean-of-theta : tie.After-pair
   mean-of-theta = mean-of-zeta (c .before .before)
 
-  theta-is : c .pair3 .result ≡ pair (precession (tt-of mean-of-theta) .theta)
+  theta-is : c .pair5 .result ≡ pair (precession (tt-of mean-of-theta) .theta)
   theta-is =
-      rw (toZ-ofZ (sfits-of (c .before .struct-told2 .given .1 .1 .0 .1))) at (c .pair3 .ensures)
+      rw (toZ-ofZ (sfits-of (c .before .struct-told2 .given .1 .1 .0 .1))) at (c .pair5 .ensures)
       ∙ ap (λ p. pair (p .theta)) (precession-at mean-of-theta .precession-of .ensures)
 
 module _ (c : tie.After-opposite-of) where
@@ -102,33 +122,25 @@ module _ (c : tie.After-opposite-of) where
   opposite-theta-is : c .opposite-of .result ≡ pair (negℤ (precession (tt-of mean-of-opposite-theta) .theta))
   opposite-theta-is = c .opposite-of .ensures ∙ ap opposite (theta-is (c .before)) ∙ sym (pair-opposite _)
 
-module _ (c : tie.After-pair4) where
+module _ (c : tie.After-pair6) where
   abbrev mean-of-z : tie.After-pair
   mean-of-z = mean-of-opposite-theta (c .before .before)
 
-  z-is : c .pair4 .result ≡ pair (precession (tt-of mean-of-z) .z)
+  z-is : c .pair6 .result ≡ pair (precession (tt-of mean-of-z) .z)
   z-is =
-      rw (toZ-ofZ (sfits-of (c .before .struct-told3 .given .1 .0 .1))) at (c .pair4 .ensures)
+      rw (toZ-ofZ (sfits-of (c .before .struct-told3 .given .1 .0 .1))) at (c .pair6 .ensures)
       ∙ ap (λ p. pair (p .z)) (precession-at mean-of-z .precession-of .ensures)
 
 -- ---- step 4
 
-module _ (c : tie.After-pair5) where
-  abbrev mean-of-sun : tie.After-pair
-  mean-of-sun = mean-of-z (c .before .before)
-
-  sun-is : c .pair5 .result ≡ pair (sunLongitude (tt-of mean-of-sun))
-  sun-is =
-      let sun = c .before .sun-longitude-of in
-      rw (held64 (sun .result) (sun .ok) ∙ sun .ensures) at (c .pair5 .ensures)
-
 module _ (c : tie.After-aberration) where
   abbrev mean-of-aberration : tie.After-pair
-  mean-of-aberration = mean-of-sun (c .before)
+  mean-of-aberration = mean-of-z (c .before)
 
   aberration-is : c .aberration .result
-      ≡ aberration (pair (sunLongitude (tt-of mean-of-aberration))) (pair (obliquity (tt-of mean-of-aberration)))
-  aberration-is = simp (sun-is, mean-is) at (c .aberration .ensures)
+      ≡ (let t = tt-of mean-of-aberration in
+      aberration (pair (sunLongitude t)) (pair (perihelion t)) (pair (obliquity t)))
+  aberration-is = simp (sun-is, perihelion-is, mean-is) at (c .aberration .ensures)
 
 -- ---- step 5
 
@@ -140,24 +152,24 @@ module _ (c : tie.After-opposite-of2) where
   opposite-mean-is =
       c .opposite-of2 .ensures ∙ ap opposite (mean-is mean-of-opposite-mean) ∙ sym (pair-opposite _)
 
-module _ (c : tie.After-pair6) where
+module _ (c : tie.After-pair7) where
   abbrev mean-of-longitude : tie.After-pair
   mean-of-longitude = mean-of-opposite-mean (c .before .before)
 
-  longitude-is : c .pair6 .result ≡ pair (nutation (tt-of mean-of-longitude) .longitude)
+  longitude-is : c .pair7 .result ≡ pair (nutation (tt-of mean-of-longitude) .longitude)
   longitude-is =
-      rw (toZ-ofZ (sfits-of (c .before .struct-told4 .given .0 .1))) at (c .pair6 .ensures)
+      rw (toZ-ofZ (sfits-of (c .before .struct-told4 .given .0 .1))) at (c .pair7 .ensures)
       ∙ ap (λ n. pair (n .longitude)) (nutation-at mean-of-longitude .nutation-of .ensures)
 
-module _ (c : tie.After-pair7) where
+module _ (c : tie.After-pair8) where
   abbrev mean-of-obliquity : tie.After-pair
   mean-of-obliquity = mean-of-longitude (c .before .before .before)
 
-  obliquity-is : c .pair7 .result
+  obliquity-is : c .pair8 .result
       ≡ pair (obliquity (tt-of mean-of-obliquity) +ℤ nutation (tt-of mean-of-obliquity) .obliquity)
   obliquity-is =
       let m = mean-of-obliquity in
-      rw (add (epsilon-holds m) (delta-epsilon-holds m) tt .value) at (c .pair7 .ensures)
+      rw (add (epsilon-holds m) (delta-epsilon-holds m) tt .value) at (c .pair8 .ensures)
 
 -- ---- step 6
 
@@ -193,38 +205,44 @@ obliquity-of-requires c κs = search needs
 pair-requires : tie.Need-pair-requires
 pair-requires c κs = search needs
 
+sun-longitude-of-requires : tie.Need-sun-longitude-of-requires
+sun-longitude-of-requires c κs = search needs
+
 pair-requires-2 : tie.Need-pair-requires-2
 pair-requires-2 c κs = search needs
+
+perihelion-of-requires : tie.Need-perihelion-of-requires
+perihelion-of-requires c κs = search needs
 
 pair-requires-3 : tie.Need-pair-requires-3
 pair-requires-3 c κs = search needs
 
-opposite-of-requires : tie.Need-opposite-of-requires
-opposite-of-requires c κs = rw (theta-is c) (pair-sized _)
-
 pair-requires-4 : tie.Need-pair-requires-4
 pair-requires-4 c κs = search needs
-
-sun-longitude-of-requires : tie.Need-sun-longitude-of-requires
-sun-longitude-of-requires c κs = search needs
 
 pair-requires-5 : tie.Need-pair-requires-5
 pair-requires-5 c κs = search needs
 
-aberration-requires : tie.Need-aberration-requires
-aberration-requires c κs = simp (sun-is, mean-is) (pair-sized _, pair-sized _)
-
-opposite-of-requires-2 : tie.Need-opposite-of-requires-2
-opposite-of-requires-2 c κs = simp mean-is (pair-sized _)
+opposite-of-requires : tie.Need-opposite-of-requires
+opposite-of-requires c κs = rw (theta-is c) (pair-sized _)
 
 pair-requires-6 : tie.Need-pair-requires-6
 pair-requires-6 c κs = search needs
 
-add-pair : tie.Need-add-pair
-add-pair c = let m = mean-of-longitude (c .before .before) in add-ok (epsilon-holds m) (delta-epsilon-holds m) tt
+aberration-requires : tie.Need-aberration-requires
+aberration-requires c κs = simp (sun-is, perihelion-is, mean-is) (pair-sized _, (pair-sized _, pair-sized _))
+
+opposite-of-requires-2 : tie.Need-opposite-of-requires-2
+opposite-of-requires-2 c κs = simp mean-is (pair-sized _)
 
 pair-requires-7 : tie.Need-pair-requires-7
 pair-requires-7 c κs = search needs
+
+add-pair : tie.Need-add-pair
+add-pair c = let m = mean-of-longitude (c .before .before) in add-ok (epsilon-holds m) (delta-epsilon-holds m) tt
+
+pair-requires-8 : tie.Need-pair-requires-8
+pair-requires-8 c κs = search needs
 
 sidereal-pair-requires : tie.Need-sidereal-pair-requires
 sidereal-pair-requires c κs =
@@ -266,17 +284,19 @@ night-at-spec =
     nutation-of-requires
     obliquity-of-requires
     pair-requires
-    pair-requires-2
-    pair-requires-3
-    opposite-of-requires
-    pair-requires-4
     sun-longitude-of-requires
+    pair-requires-2
+    perihelion-of-requires
+    pair-requires-3
+    pair-requires-4
     pair-requires-5
+    opposite-of-requires
+    pair-requires-6
     aberration-requires
     opposite-of-requires-2
-    pair-requires-6
-    add-pair
     pair-requires-7
+    add-pair
+    pair-requires-8
     sidereal-pair-requires
     latitude-pair-requires
     returns)

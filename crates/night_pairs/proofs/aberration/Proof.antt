@@ -5,21 +5,24 @@ use borrow.Author.Needs.{needs}
 use Rattle.words.specs.Fits.{held64}
 use Rattle.words.specs.Holds.{Holds, bits, arg, got}
 use Rattle.rules.specs.Units.{unit}
-use Rattle.rules.specs.Night.{aberrationConstant, aberrationY, aberration}
-use Rattle.laws.specs.Night.{aberrationY-le}
+use Rattle.rules.specs.Night.{aberrationY, aberration}
+use Rattle.laws.specs.Night.{mostAberration, aberrationY-le}
 use Rattle.night_pairs.proofs.aberration.Statement.{statement}
 use Rattle.night_pairs.proofs.aberration.Tie as tie
 
 module _ (c : tie.Start) where
   cosine-holds : Holds (bits (c .args .e .cosine)) (c .args .e .cosine) unit
-  cosine-holds = arg (c .args .e .cosine) (c .pre .1 .cosine-le) tt
+  cosine-holds = arg (c .args .e .cosine) (c .pre .1 .1 .cosine-le) tt
 
   sine-holds : Holds (bits (c .args .e .sine)) (c .args .e .sine) unit
-  sine-holds = arg (c .args .e .sine) (c .pre .1 .sine-le) tt
+  sine-holds = arg (c .args .e .sine) (c .pre .1 .1 .sine-le) tt
 
 by-holds : (c : tie.After-aberration-y)
-    → Holds (bits (c .aberration-y .result)) (aberrationY (c .before .args .s)) aberrationConstant
-by-holds c = got (c .aberration-y .ensures) (aberrationY-le (c .before .args .s) (c .before .pre .0)) tt
+    → Holds (bits (c .aberration-y .result)) (aberrationY (c .before .args .s) (c .before .args .p)) mostAberration
+by-holds c =
+    let start = c .before in
+    got (c .aberration-y .ensures)
+    (aberrationY-le (start .args .s) (start .args .p) (start .pre .0) (start .pre .1 .0)) tt
 
 returns : tie.Need-returns
 unfolding aberration
@@ -47,14 +50,14 @@ scaled-requires c κs =
     let start = c .before .before .before in
     let y = by-holds (c .before .before) in
     rw (y .value, cosine-holds start .value)
-    (record { number-le = omega (arith, y .size); part-le = start .pre .1 .cosine-le })
+    (record { number-le = omega (arith, y .size); part-le = start .pre .1 .1 .cosine-le })
 
 scaled-requires-2 : tie.Need-scaled-requires-2
 scaled-requires-2 c κs =
     let start = c .before .before .before .before .before in
     let y = by-holds (c .before .before .before .before) in
     rw (y .value, sine-holds start .value)
-    (record { number-le = omega (arith, y .size); part-le = start .pre .1 .sine-le })
+    (record { number-le = omega (arith, y .size); part-le = start .pre .1 .1 .sine-le })
 
 pub aberration-spec : {M : Type 1} → statement M
 aberration-spec =

@@ -26,6 +26,7 @@ use Rattle.precession.proofs.obliquity as obliquity
 use Rattle.arguments.proofs.arguments as arguments
 use Rattle.nutation.proofs.nutation as nutation
 use Rattle.sun.proofs.sun_longitude as sun-longitude
+use Rattle.sun.proofs.perihelion.perihelion as perihelion
 use Rattle.sidereal.proofs.sidereal as sidereal
 use Rattle.circle.proofs.pair as pair
 use Rattle.reading.proofs.reading as reading
@@ -105,6 +106,9 @@ module _ {M : Type 1} (𝓤 : URA M) (H : Heap 𝓤) (A : Atoms 𝓤) (mem : Mem
 
   pub sun-longitude-asks-nothing : AsksNothing 𝓤 sun-longitude.ended (sun-longitude.clauses 𝓤 H A mem run)
   sun-longitude-asks-nothing κs passed g = refl
+
+  pub perihelion-asks-nothing : AsksNothing 𝓤 perihelion.ended (perihelion.clauses 𝓤 H A mem run)
+  perihelion-asks-nothing κs passed g = refl
 
   pub sidereal-asks-nothing : AsksNothing 𝓤 sidereal.ended (sidereal.clauses 𝓤 H A mem run)
   sidereal-asks-nothing κs passed g = refl

@@ -47,6 +47,7 @@ use Rattle.precession.proofs.obliquity as obliquity
 use Rattle.arguments.proofs.arguments as arguments
 use Rattle.nutation.proofs.nutation as nutation
 use Rattle.sun.proofs.sun_longitude as sun-longitude
+use Rattle.sun.proofs.perihelion.perihelion as perihelion
 use Rattle.sidereal.proofs.sidereal as sidereal
 use Rattle.turning.proofs.turn as turn
 use Rattle.place.proofs.place as place
@@ -104,6 +105,11 @@ module _ {M : Type 1} (𝓤 : URA M) (H : Heap 𝓤) (A : Atoms 𝓤) (mem : Mem
       (λ κs passed a x. Refuses a Angle.Refused (checks.instantChecks (passed .0 .0)))
   sun-longitude-tells κs passed g a x = so-told 𝓤 (answers.sun-longitude-answers 𝓤 H A mem run κs passed g a x)
       (λ e r. rw e (instant.sun-refused (passed .0) r))
+
+  pub perihelion-tells : Tells 𝓤 perihelion.ended (perihelion.clauses 𝓤 H A mem run)
+      (λ κs passed a x. Refuses a Angle.Refused (checks.instantChecks (passed .0 .0)))
+  perihelion-tells κs passed g a x = so-told 𝓤 (answers.perihelion-answers 𝓤 H A mem run κs passed g a x)
+      (λ e r. rw e (instant.perihelion-refused (passed .0) r))
 
   pub sidereal-tells : Tells 𝓤 sidereal.ended (sidereal.clauses 𝓤 H A mem run)
       (λ κs passed a x. Refuses a Angle.Refused (checks.instantChecks (passed .0 .0)))

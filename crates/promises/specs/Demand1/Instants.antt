@@ -1,5 +1,6 @@
 -- Demand 1 of the angles at an instant, 12: of TT precession, obliquity and the arguments of nutation (`precession`,
--- `arguments`), nutation (`nutation`) and the Sun's longitude (`sun`), of UT the sidereal angle (`sidereal`).
+-- `arguments`), nutation (`nutation`), the Sun's longitude and the longitude of perihelion (`sun`), of UT the sidereal
+-- angle (`sidereal`).
 use mathlib.Core.Path.{_≡_, refl, ap, _∙_}
 use mathlib.Core.Logic.{_↔_}
 use mathlib.Core.List.{[], _∷_}
@@ -18,7 +19,7 @@ use Rattle.rules.specs.Polynomials.{angleAt}
 use Rattle.rules.specs.Precession.{precession, precessionAt, obliquity, obliquityAt}
 use Rattle.rules.specs.Arguments.{arguments, argumentsAt}
 use Rattle.rules.specs.Nutation.{nutation, nutationAt}
-use Rattle.rules.specs.Sun.{sunLongitude, sunLongitudeAt}
+use Rattle.rules.specs.Sun.{sunLongitude, sunLongitudeAt, perihelion, perihelionAt}
 use Rattle.rules.specs.Sidereal.{sidereal, siderealAt}
 use Rattle.laws.specs.Checks.{FirstGiven}
 use Rattle.promises.specs.Demand1.Checks.{instantChecks}
@@ -132,6 +133,21 @@ pub sun-answer : (t : Tt)
     → angleAnswer (sunLongitudeAt t) ≡ first (instantChecks (t .0)) (λ r. refused r 1) (given (sunLongitude t ∷ []))
 unfolding sunLongitudeAt
 sun-answer t = angle-answer (t .0) (sunLongitude t)
+
+pub perihelion-checked : (t : Tt)
+    → perihelionAt t ≡ first (instantChecks (t .0)) Angle.Refused (Angle.Of (perihelion t))
+unfolding perihelionAt
+perihelion-checked t = angle-checked (t .0) (perihelion t)
+
+pub perihelion-refused : (t : Tt) (r : Refusal)
+    → (perihelionAt t ≡ Angle.Refused r) ↔ FirstGiven (instantChecks (t .0)) r
+unfolding perihelionAt
+perihelion-refused t r = angle-refused (t .0) (perihelion t) r
+
+pub perihelion-answer : (t : Tt)
+    → angleAnswer (perihelionAt t) ≡ first (instantChecks (t .0)) (λ r. refused r 1) (given (perihelion t ∷ []))
+unfolding perihelionAt
+perihelion-answer t = angle-answer (t .0) (perihelion t)
 
 pub sidereal-checked : (t : Ut)
     → siderealAt t ≡ first (instantChecks (t .0)) Angle.Refused (Angle.Of (sidereal t))

@@ -34,6 +34,7 @@ use Rattle.precession.proofs.obliquity as obliquity
 use Rattle.arguments.proofs.arguments as arguments
 use Rattle.nutation.proofs.nutation as nutation
 use Rattle.sun.proofs.sun_longitude as sun-longitude
+use Rattle.sun.proofs.perihelion.perihelion as perihelion
 use Rattle.sidereal.proofs.sidereal as sidereal
 use Rattle.turning.proofs.turn as turn
 use Rattle.place.proofs.place as place
@@ -97,6 +98,12 @@ module _ {M : Type 1} (𝓤 : URA M) (H : Heap 𝓤) (A : Atoms 𝓤) (mem : Mem
       (λ κs passed a x. Never13 a Angle.Refused)
   unfolding number
   sun-longitude-not-13 κs passed g a x = so-told 𝓤 (told.sun-longitude-tells 𝓤 H A mem run κs passed g a x)
+      (never-13 a Angle.Refused (checks.instantChecks (passed .0 .0)) refl)
+
+  pub perihelion-not-13 : Tells 𝓤 perihelion.ended (perihelion.clauses 𝓤 H A mem run)
+      (λ κs passed a x. Never13 a Angle.Refused)
+  unfolding number
+  perihelion-not-13 κs passed g a x = so-told 𝓤 (told.perihelion-tells 𝓤 H A mem run κs passed g a x)
       (never-13 a Angle.Refused (checks.instantChecks (passed .0 .0)) refl)
 
   pub sidereal-not-13 : Tells 𝓤 sidereal.ended (sidereal.clauses 𝓤 H A mem run)

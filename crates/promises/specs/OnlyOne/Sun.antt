@@ -10,6 +10,8 @@ use Rattle.promises.specs.Contracts.{OneAnswer, one}
 use Rattle.sun.proofs.sun_longitude_of as sun-longitude-of
 use Rattle.sun.proofs.mean_longitude_of as mean-longitude-of
 use Rattle.sun.proofs.sun_longitude as sun-longitude
+use Rattle.sun.proofs.perihelion.perihelion_of as perihelion-of
+use Rattle.sun.proofs.perihelion.perihelion as perihelion
 
 module _ {M : Type 1} (𝓤 : URA M) (H : Heap 𝓤) (A : Atoms 𝓤) (mem : Memory → SProp 𝓤) (run : Routine → Fun 𝓤) where
   pub sun-longitude-of-one : OneAnswer 𝓤 sun-longitude-of.ended (sun-longitude-of.clauses 𝓤 H A mem run)
@@ -20,3 +22,9 @@ module _ {M : Type 1} (𝓤 : URA M) (H : Heap 𝓤) (A : Atoms 𝓤) (mem : Mem
 
   pub sun-longitude-one : OneAnswer 𝓤 sun-longitude.ended (sun-longitude.clauses 𝓤 H A mem run)
   sun-longitude-one κs passed g r s x y = one 𝓤 r s _
+
+  pub perihelion-of-one : OneAnswer 𝓤 perihelion-of.ended (perihelion-of.clauses 𝓤 H A mem run)
+  perihelion-of-one κs passed g r s x y = one 𝓤 r s _
+
+  pub perihelion-one : OneAnswer 𝓤 perihelion.ended (perihelion.clauses 𝓤 H A mem run)
+  perihelion-one κs passed g r s x y = one 𝓤 r s _

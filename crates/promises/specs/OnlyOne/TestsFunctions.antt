@@ -14,6 +14,7 @@ use Rattle.tests_functions.proofs.angle_sets.tests_arguments as tests-arguments
 use Rattle.tests_functions.proofs.angle_sets.tests_nutation as tests-nutation
 use Rattle.tests_functions.proofs.angles.tests_obliquity as tests-obliquity
 use Rattle.tests_functions.proofs.angles.tests_sun as tests-sun
+use Rattle.tests_functions.proofs.angles.tests_perihelion as tests-perihelion
 use Rattle.tests_functions.proofs.angles.tests_sidereal as tests-sidereal
 use Rattle.tests_functions.proofs.angles.tests_mean_longitude as tests-mean-longitude
 use Rattle.tests_functions.proofs.angles.tests_sidereal_polynomial as tests-sidereal-polynomial
@@ -45,6 +46,9 @@ module _ {M : Type 1} (𝓤 : URA M) (H : Heap 𝓤) (A : Atoms 𝓤) (mem : Mem
 
   pub tests-sun-one : OneAnswer 𝓤 tests-sun.ended (tests-sun.clauses 𝓤 H A mem run)
   tests-sun-one κs passed g r s x y = one 𝓤 r s _
+
+  pub tests-perihelion-one : OneAnswer 𝓤 tests-perihelion.ended (tests-perihelion.clauses 𝓤 H A mem run)
+  tests-perihelion-one κs passed g r s x y = one 𝓤 r s _
 
   pub tests-sidereal-one : OneAnswer 𝓤 tests-sidereal.ended (tests-sidereal.clauses 𝓤 H A mem run)
   tests-sidereal-one κs passed g r s x y = one 𝓤 r s _
