@@ -97,7 +97,8 @@ each-refused-outside t u = record {
       (λ e. let z : _≡_ {A = ℕ} 0 1 = cc in omega arith);
   obliquity = refused-outside Angle (t .0) (Angle.Refused Refusal.Instant) (Angle.Of (obliquity t))
       (never Refusal.Instant (obliquity t));
-  arguments = refused-outside FiveArguments (t .0) (FiveArguments.Refused Refusal.Instant) (FiveArguments.By (arguments t))
+  arguments = refused-outside FiveArguments (t .0) (FiveArguments.Refused Refusal.Instant)
+      (FiveArguments.By (arguments t))
       (λ e. let z : _≡_ {A = ℕ} 0 1 = cc in omega arith);
   nutation = refused-outside Nutated (t .0) (Nutated.Refused Refusal.Instant) (Nutated.By (nutation t))
       (λ e. let z : _≡_ {A = ℕ} 0 1 = cc in omega arith);

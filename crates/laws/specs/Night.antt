@@ -39,7 +39,7 @@ use Rattle.laws.specs.Nutation.{ten-terms}
 pub scaled-le : (k c : ℤ) (m : ℕ) → natAbs k ≤ m → natAbs c ≤ unit → natAbs (rnd (k *ℤ c) unit) ≤ m
 scaled-le k c m hk hc = rnd-under (k *ℤ c) unit m (lit< tt) (rw (abs-mul k c) (omega (arith, mul-le-mul hk hc)))
 
--- 108,475: the most that bx and by may be
+-- 108,475: the most that bx, by and each part of what is added may be
 abbrev pub mostAberration : ℕ
 mostAberration = aberrationConstant + eccentricConstant
 
@@ -76,12 +76,12 @@ module _ (s p : Pair) (hs : Sized s) (hp : Sized p) where
     ofEccentricity-le (p .cosine) (hp .cosine-le),
   )
 
-  pub aberration-le : (e : Pair) → Sized e → PartsLe mostAdded (aberration s p e)
+  pub aberration-le : (e : Pair) → Sized e → PartsLe mostAberration (aberration s p e)
   unfolding aberration
   aberration-le e he = record {
-    x = omega (arith, aberrationX-le);
-    y = omega (arith, scaled-le (aberrationY s p) (e .cosine) mostAberration aberrationY-le (he .cosine-le));
-    z = omega (arith, scaled-le (aberrationY s p) (e .sine) mostAberration aberrationY-le (he .sine-le));
+    x = aberrationX-le;
+    y = scaled-le (aberrationY s p) (e .cosine) mostAberration aberrationY-le (he .cosine-le);
+    z = scaled-le (aberrationY s p) (e .sine) mostAberration aberrationY-le (he .sine-le);
   }
 
 -- ---- the local sidereal angle
@@ -153,8 +153,9 @@ night-fits ut tt site h = record {
   minus-theta = pair-length _;
   z = pair-length _;
   aberration =
-      aberration-le (pair (sunLongitude tt)) (pair (perihelion tt)) (pair-sized _) (pair-sized _)
-      (pair (obliquity tt)) (pair-sized _);
+      let a = aberration-le (pair (sunLongitude tt)) (pair (perihelion tt)) (pair-sized _) (pair-sized _)
+      (pair (obliquity tt)) (pair-sized _) in
+      record { x = omega (arith, a .x); y = omega (arith, a .y); z = omega (arith, a .z) };
   minus-epsilon = pair-length _;
   delta-psi = pair-length _;
   true-epsilon = pair-length _;

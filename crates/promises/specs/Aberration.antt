@@ -24,7 +24,7 @@ use Rattle.rules.specs.Sun.{sunLongitude, perihelion}
 use Rattle.rules.specs.Night.{aberrationX, aberrationY, aberration, night, nightOf}
 use Rattle.rules.specs.Place.{aberrated}
 use Rattle.laws.specs.Angles.{pair-sized}
-use Rattle.laws.specs.Directions.{plus}
+use Rattle.laws.specs.Directions.{PartsLe, plus}
 use Rattle.laws.specs.Night as law
 use Rattle.laws.specs.Aberration.{plus-root-ge}
 use Rattle.laws.specs.Place.{aberrated-accepted}
@@ -62,7 +62,11 @@ bx-size a b = law.aberrationX-le (pair a) (pair b) (pair-sized a) (pair-sized b)
 pub by-size : (a b : ℤ) → natAbs (aberrationY (pair a) (pair b)) ≤ 108475
 by-size a b = law.aberrationY-le (pair a) (pair b) (pair-sized a) (pair-sized b)
 
--- 1783 parts in 2^30 of a radian are 0.3425″, "a third of an arcsecond": no more than that lies between the two orbits
+-- and so is each part of what is added
+pub added-size : (a b c : ℤ) → PartsLe 108475 (aberration (pair a) (pair b) (pair c))
+added-size a b c = law.aberration-le (pair a) (pair b) (pair-sized a) (pair-sized b) (pair c) (pair-sized c)
+
+-- each of bx and by lies at most 1,783 parts in 2^30 of a radian, 0.3425″, from that of the circle
 pub bx-from-the-circle : (a b : ℤ) → natAbs (aberrationX (pair a) (pair b) -ℤ circleX (pair a)) ≤ 1783
 unfolding aberrationX
 bx-from-the-circle a b =

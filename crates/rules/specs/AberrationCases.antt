@@ -15,11 +15,11 @@ abbrev parts : ℤ → ℤ → Pair
 parts c s = record { cosine = c; sine = s }
 
 -- the pairs of 0 and of a quarter
-abbrev nought : Pair
-nought = parts (+ 1073741824) (+ 0)
+abbrev pairOfNought : Pair
+pairOfNought = parts (+ 1073741824) (+ 0)
 
-abbrev quarter : Pair
-quarter = parts (+ 0) (+ 1073741824)
+abbrev pairOfQuarter : Pair
+pairOfQuarter = parts (+ 0) (+ 1073741824)
 
 -- 0.60 of a part for S, 0.30 of a part for ϖ
 abbrev smallSun : Pair
@@ -34,18 +34,18 @@ pub record AberrationCases : Type 0 where
   pub a-century-later : perihelion (at (+ 3155760000000)) ≡ + 376766172000
   pub a-century-before : perihelion (at (− 3155760000000)) ≡ + 364386060000
   -- "bx loses Rnd(1783 sin ϖ/2^30)"
-  pub x-loses : aberrationX nought quarter ≡ − 1783
-  pub x-of-both : aberrationX quarter quarter ≡ + 104909
-  pub x-of-the-circle : aberrationX quarter nought ≡ + 106692
+  pub x-loses : aberrationX pairOfNought pairOfQuarter ≡ − 1783
+  pub x-of-both : aberrationX pairOfQuarter pairOfQuarter ≡ + 104909
+  pub x-of-the-circle : aberrationX pairOfQuarter pairOfNought ≡ + 106692
   -- "by gains Rnd(1783 cos ϖ/2^30)"
-  pub y-gains : aberrationY quarter nought ≡ + 1783
-  pub y-of-both : aberrationY nought nought ≡ − 104909
-  pub y-of-the-circle : aberrationY nought quarter ≡ − 106692
+  pub y-gains : aberrationY pairOfQuarter pairOfNought ≡ + 1783
+  pub y-of-both : aberrationY pairOfNought pairOfNought ≡ − 104909
+  pub y-of-the-circle : aberrationY pairOfNought pairOfQuarter ≡ − 106692
   -- each is rounded by itself: 0.60 to 1 and 0.30 to 0
   pub x-rounded-twice : aberrationX smallSun smallPerihelion ≡ + 1
   pub y-rounded-twice : aberrationY smallSun smallPerihelion ≡ − 1
   -- "Add (bx, Rnd(by cos ε/2^30), Rnd(by sin ε/2^30))"
-  pub added : aberration nought nought (parts (+ 536870912) (+ 268435456))
+  pub added : aberration pairOfNought pairOfNought (parts (+ 536870912) (+ 268435456))
       ≡ record { x = + 0; y = − 52455; z = − 26227 }
 
 pub aberrationCases : AberrationCases

@@ -58,7 +58,8 @@ pub arguments-refused : (t : Tt) (r : Refusal)
     → (argumentsAt t ≡ FiveArguments.Refused r) ↔ FirstGiven (instantChecks (t .0)) r
 unfolding fiveArgumentsAnswer given refused
 arguments-refused t r = rw (arguments-checked t)
-    (refused-exactly (λ a. pos (fiveArgumentsAnswer a .number)) FiveArguments.Refused _ (λ _. refl) refl (instantChecks (t .0)) r)
+    (refused-exactly (λ a. pos (fiveArgumentsAnswer a .number)) FiveArguments.Refused _ (λ _. refl) refl
+    (instantChecks (t .0)) r)
 
 pub arguments-answer : (t : Tt)
     → fiveArgumentsAnswer (argumentsAt t)
@@ -67,7 +68,8 @@ pub arguments-answer : (t : Tt)
     ∷ []))
 unfolding fiveArgumentsAnswer
 arguments-answer t =
-    ap fiveArgumentsAnswer (arguments-checked t) ∙ first-map fiveArgumentsAnswer (instantChecks (t .0)) FiveArguments.Refused _
+    ap fiveArgumentsAnswer (arguments-checked t)
+    ∙ first-map fiveArgumentsAnswer (instantChecks (t .0)) FiveArguments.Refused _
 
 -- ---- nutation
 
