@@ -46,7 +46,7 @@ two-of-unit l h k = abs-le (pos unit -ℤ pos l) 2
     (omega (arith, sub-is (pos unit) (pos l))) (omega (arith, sub-is (pos unit) (pos l)))
 
 module _ (x : ℤ) (hx : UpTo x halfQuarterParts) where
-  raw-squares : (pairSquares (rawPair x) ≤ 2 ^ 60 + apart) × (2 ^ 60 ≤ pairSquares (rawPair x) + apart)
+  pub raw-squares : (pairSquares (rawPair x) ≤ 2 ^ 60 + apart) × (2 ^ 60 ≤ pairSquares (rawPair x) + apart)
   unfolding pairSquares square
   raw-squares =
       let s = rawSine x in

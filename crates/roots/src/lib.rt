@@ -75,9 +75,14 @@ pub fn length_root(n: i64) -> i64
     whole_root(n)
 }
 
-// The root of a number near 2^60: from LOW on, squares go up by little less than 2^31, so that the
-// quotient is the root or one below.
-fn near_root(n: i64) -> i64
+// The whole root, downward, of a number near 2^60.
+//
+// Given: what `NearSquare` asks: n from (2^30 - 64)^2 to less than 2^38 above it.
+// Returned: the largest number whose square is at most n.
+// Rule: docs/RULES.md, "Sine and cosine".
+//
+// From LOW on, squares go up by little less than 2^31, so that the quotient is the root or one below.
+pub fn near_root(n: i64) -> i64
     requires { ⌜ NearSquare n ⌝ }
     ensures { λ r. ⌜ r ≡ pos (root (natAbs n)) ⌝ }
 {

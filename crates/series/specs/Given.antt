@@ -1,10 +1,11 @@
 -- What the private functions ask of their numbers, by name: each is met for every angle and every reading.
 use Prim.Native.Nat.{_≤_, _<_}
-use lib.IntN.{ℤ, natAbs}
+use lib.IntN.{ℤ, pos, natAbs}
 use Rattle.rules.specs.Units.{unit}
-use Rattle.rules.specs.Length.{root, pairSquares}
+use Rattle.rules.specs.Length.{pairSquares}
 use Rattle.rules.specs.declared.Pair.{Pair}
 use Rattle.laws.specs.UpTo.{UpTo}
+use Rattle.roots.specs.NearSquare.{NearSquare}
 
 -- a stage of a row: w and p from nought to a whole, k from 1 to the row's largest
 pub record StageGiven (w k p : ℤ) : Type 0 where
@@ -13,8 +14,8 @@ pub record StageGiven (w k p : ℤ) : Type 0 where
   pub k-pos : 0 < natAbs k
   pub k-range : UpTo k 132
 
--- a pair brought to length: no part is above a whole, and the length is not nought
+-- a pair brought to length: no part is above a whole, and the length is near one
 pub record PairGiven (p : Pair) : Type 0 where
   pub cosine-le : natAbs (p .cosine) ≤ unit
   pub sine-le : natAbs (p .sine) ≤ unit
-  pub length-pos : 0 < root (pairSquares p)
+  pub near : NearSquare (pos (pairSquares p))

@@ -42,12 +42,12 @@ pub fn pair_of_parts(x: i64) -> Pair
     pair_to_length(rows::raw_cosine(w), s)
 }
 
-// c and s, brought to length.
+// c and s, brought to length. Theirs is always near 2^30: its root is taken without a test.
 fn pair_to_length(c: i64, s: i64) -> Pair
     requires { ⌜ PairGiven (record { cosine = c; sine = s }) ⌝ }
     ensures { λ r. ⌜ r ≡ pairToLength (record { cosine = c; sine = s }) ⌝ }
 {
-    let l = roots::length_root(c * c + s * s);
+    let l = roots::near_root(c * c + s * s);
     Pair {
         cosine: length::part_to(c, l),
         sine: length::part_to(s, l),

@@ -9,6 +9,7 @@ use contract.Monad.{Fun}
 use Rattle.promises.specs.Contracts.{OneAnswer, one}
 use Rattle.roots.proofs.whole_root as whole-root
 use Rattle.roots.proofs.length_root as length-root
+use Rattle.roots.proofs.near_root as near-root
 
 module _ {M : Type 1} (𝓤 : URA M) (H : Heap 𝓤) (A : Atoms 𝓤) (mem : Memory → SProp 𝓤) (run : Routine → Fun 𝓤) where
   pub whole-root-one : OneAnswer 𝓤 whole-root.ended (whole-root.clauses 𝓤 H A mem run)
@@ -16,3 +17,6 @@ module _ {M : Type 1} (𝓤 : URA M) (H : Heap 𝓤) (A : Atoms 𝓤) (mem : Mem
 
   pub length-root-one : OneAnswer 𝓤 length-root.ended (length-root.clauses 𝓤 H A mem run)
   length-root-one κs passed g r s x y = one 𝓤 r s _
+
+  pub near-root-one : OneAnswer 𝓤 near-root.ended (near-root.clauses 𝓤 H A mem run)
+  near-root-one κs passed g r s x y = one 𝓤 r s _

@@ -1,15 +1,17 @@
 -- `series::parts::pair_of_parts` meets its contract.
-use mathlib.Core.Path.{_∙_}
+use mathlib.Core.Path.{refl, _∙_}
 use native.Mathlib.Omega.{arith}
-use lib.IntN.{pos}
+use lib.IntN.{ℤ, pos}
 use borrow.Author.Needs.{needs}
 use Rattle.rules.specs.Units.{unit}
+use Rattle.rules.specs.Length.{pairSquares}
 use Rattle.rules.specs.Circle.{squareParts, stages, sineRow, rawSine, rawCosine, pairOfParts}
-use Rattle.laws.specs.UpTo.{upTo-le}
+use Rattle.laws.specs.UpTo.{UpTo, upTo-le}
 use Rattle.laws.specs.Circle.{halfQuarterParts, square-range, sine-stages-range, rawSine-range, rawCosine-range}
-use Rattle.laws.specs.CircleLength.{rawPair, lengthOf-pos}
+use Rattle.laws.specs.CircleLength.{rawPair, raw-squares}
 use Rattle.words.specs.Holds.{Holds, bits, arg, got}
 use Rattle.rounding.proofs.ByUnit.{product-fits, product-asked, product-rounded}
+use Rattle.roots.specs.NearSquare.{NearSquare}
 use Rattle.series.specs.Given.{PairGiven}
 use Rattle.series.proofs.parts.pair_of_parts.Statement.{statement}
 use Rattle.series.proofs.parts.pair_of_parts.Tie as tie
@@ -63,13 +65,16 @@ raw-cosine-requires c κs =
     let b = c .before .before .before in
     rw (w-holds (c .before .before) .value) (square-range (b .args .x) (b .pre))
 
+near : (x : ℤ) → UpTo x halfQuarterParts → NearSquare (pos (pairSquares (rawPair x)))
+near x h = let k = raw-squares x h in record { is = refl; low = omega arith; high = omega arith }
+
 pair-to-length-requires : tie.Need-pair-to-length-requires
 pair-to-length-requires c κs =
     let b = c .before .before .before .before in
     let given : PairGiven (rawPair (b .args .x)) = record {
       cosine-le = c-holds c .size;
       sine-le = omega (arith, s-holds (c .before) .size);
-      length-pos = lengthOf-pos (b .args .x) (b .pre);
+      near = near (b .args .x) (b .pre);
     } in
     rw (c-holds c .value, s-holds (c .before) .value) given
 

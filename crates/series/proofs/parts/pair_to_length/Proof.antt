@@ -1,15 +1,15 @@
 -- `series::parts::pair_to_length` meets its contract.
-use Prim.Native.Nat.{ℕ, _+_, _*_, _≤_}
+use Prim.Native.Nat.{ℕ, _+_, _*_, _≤_, _<_}
 use mathlib.Core.Path.{_≡_}
 use native.Mathlib.Omega.{arith}
 use native.Mathlib.Nat.{mul-le-mul}
-use lib.Dec.{le→leb, lt→ltb}
+use lib.Dec.{lt→ltb}
 use lib.IntN.{ℤ, pos, natAbs, _+ℤ_, _*ℤ_}
 use Rattle.integers.specs.Size.{square-abs}
 use Rattle.rules.specs.Units.{unit}
 use Rattle.rules.specs.declared.Pair.{Pair}
 use Rattle.rules.specs.Length.{root, square, pairSquares, partTo, pairToLength}
-use Rattle.laws.specs.Root.{root-root, root-le}
+use Rattle.laws.specs.Root.{root-root, root-le, root-ge}
 use Rattle.laws.specs.Length.{le-root, partTo-le}
 use Rattle.words.specs.Holds.{Holds, bits, _+ʷ_, _*ʷ_, arg, got, add, add-ok, mul, mul-ok}
 use Rattle.length.specs.Given.{PartFits}
@@ -47,9 +47,12 @@ squares-le c =
 length-le : (c : tie.Start) → length c ≤ 2 * unit
 length-le c = root-le (pairSquares (given c)) (2 * unit) (omega (arith, squares-le c)) (omega (arith, squares-le c))
 
-length-holds : (c : tie.After-length-root) → Holds (bits (c .length-root .result)) (pos (length (c .before))) (2 * unit)
+length-pos : (c : tie.Start) → 0 < length c
+length-pos c = root-ge (pairSquares (given c)) 1 (omega (arith, squares-le c)) (omega (arith, c .pre .near .low))
+
+length-holds : (c : tie.After-near-root) → Holds (bits (c .near-root .result)) (pos (length (c .before))) (2 * unit)
 length-holds c =
-    got (rw (squares-hold (c .before) .value, squares-is (given (c .before))) at (c .length-root .ensures))
+    got (rw (squares-hold (c .before) .value, squares-is (given (c .before))) at (c .near-root .ensures))
     (length-le (c .before)) tt
 
 -- ---- the parts
@@ -67,7 +70,7 @@ sine-le-length c = le-root (natAbs (c .args .s)) (pairSquares (given c)) (length
 part-fits : (c : tie.Start) (z : ℤ) → natAbs z ≤ length c → PartFits z (pos (length c))
 part-fits c z h = record {
   part-le = omega (arith, h, length-le c);
-  length-pos = record { lt = lt→ltb 0 (length c) (c .pre .length-pos) };
+  length-pos = record { lt = lt→ltb 0 (length c) (length-pos c) };
   length-le = omega (arith, length-le c);
 }
 
@@ -76,7 +79,7 @@ cosine-holds : (c : tie.After-part-to)
 cosine-holds c =
     let b = c .before .before in
     got (rw (length-holds (c .before) .value, c-holds b .value) at (c .part-to .ensures))
-    (partTo-le (b .args .c) (length b) (b .pre .length-pos) (cosine-le-length b)) tt
+    (partTo-le (b .args .c) (length b) (length-pos b) (cosine-le-length b)) tt
 
 sine-holds : (c : tie.After-part-to2)
     → Holds (bits (c .part-to2 .result))
@@ -84,22 +87,21 @@ sine-holds : (c : tie.After-part-to2)
 sine-holds c =
     let b = c .before .before .before in
     got (rw (length-holds (c .before .before) .value, s-holds b .value) at (c .part-to2 .ensures))
-    (partTo-le (b .args .s) (length b) (b .pre .length-pos) (sine-le-length b)) tt
+    (partTo-le (b .args .s) (length b) (length-pos b) (sine-le-length b)) tt
 
 -- ---- the needs
 
-mul-length-root : tie.Need-mul-length-root
-mul-length-root c = mul-ok (c-holds c) (c-holds c) tt
+mul-near-root : tie.Need-mul-near-root
+mul-near-root c = mul-ok (c-holds c) (c-holds c) tt
 
-mul-length-root-2 : tie.Need-mul-length-root-2
-mul-length-root-2 c = mul-ok (s-holds c) (s-holds c) tt
+mul-near-root-2 : tie.Need-mul-near-root-2
+mul-near-root-2 c = mul-ok (s-holds c) (s-holds c) tt
 
-add-length-root : tie.Need-add-length-root
-add-length-root c = add-ok (mul (c-holds c) (c-holds c) tt) (mul (s-holds c) (s-holds c) tt) tt
+add-near-root : tie.Need-add-near-root
+add-near-root c = add-ok (mul (c-holds c) (c-holds c) tt) (mul (s-holds c) (s-holds c) tt) tt
 
-length-root-requires : tie.Need-length-root-requires
-length-root-requires c κs =
-    rw (squares-hold c .value, squares-is (given c)) (record { le = le→leb 0 (pairSquares (given c)) (omega arith) })
+near-root-requires : tie.Need-near-root-requires
+near-root-requires c κs = rw (squares-hold c .value, squares-is (given c)) (c .pre .near)
 
 part-to-requires : tie.Need-part-to-requires
 part-to-requires c κs =
@@ -119,10 +121,10 @@ pub pair-to-length-spec : {M : Type 1} → statement M
 pair-to-length-spec =
     tie.close
     (tie.spec
-    mul-length-root
-    mul-length-root-2
-    add-length-root
-    length-root-requires
+    mul-near-root
+    mul-near-root-2
+    add-near-root
+    near-root-requires
     part-to-requires
     part-to-requires-2
     returns)
