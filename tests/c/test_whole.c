@@ -25,6 +25,7 @@ int main(void) {
     CHECK(is_unmet(tests_rnd_product_quotient((INT64_C(1) << 42) + 1, 1, 1)));
 
     CHECK(is(tests_whole_root(0), 0));
+    CHECK(is(tests_whole_root(90), 9));
     CHECK(is(tests_whole_root(INT64_C(1) << 60), INT64_C(1) << 30));
     CHECK(is(tests_whole_root((INT64_C(1) << 60) - 1), (INT64_C(1) << 30) - 1));
     CHECK(is(tests_whole_root(INT64_MAX), 3037000499));

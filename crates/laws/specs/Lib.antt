@@ -8,6 +8,7 @@ pub mod Rounding
 pub mod Nearest
 pub mod Product
 pub mod Root
+pub mod ManualRoot
 pub mod Modulo
 pub mod Directions
 pub mod LengthNear

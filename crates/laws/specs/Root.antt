@@ -1,13 +1,12 @@
 -- The whole root, downward: what it is known by, and that no second number is it.
 use mathlib.Core.Path.{_≡_}
-use Prim.Native.Nat.{ℕ, zero, suc, _+_, _*_, _/_, _≤_, _<_, _^_}
+use Prim.Native.Nat.{ℕ, zero, suc, _+_, _*_, _≤_, _<_, _^_}
 use mathlib.Core.Bool.{Bool, true, false, not, cond}
 use lib.Dec.{T, leb, leb→le, nleb→lt}
-use native.Mathlib.Nat.{two-pow-succ, mul-le-mul, mul-le-mul-right, le-antisymm, lt-of-not-le, lt-div-mul-add}
-use native.Mathlib.Nat.{div-mul-le-self}
+use native.Mathlib.Nat.{two-pow-succ, mul-le-mul, le-antisymm, lt-of-not-le}
 use native.Mathlib.Decide.{decLe}
 use native.Mathlib.Omega.{arith}
-use Rattle.integers.specs.Square.{le-of-square-le, two-products-le}
+use Rattle.integers.specs.Square.{le-of-square-le}
 use Rattle.rules.specs.Length.{root, rootFrom}
 
 -- r is the root of n: its square is at most n, and the next square is above
@@ -27,7 +26,7 @@ lower n r s p q = by (decLe r s)
 pub root-one : (n r s : ℕ) → Root n r → Root n s → r ≡ s
 root-one n r s p q = le-antisymm (lower n r s p q) (lower n s r q p)
 
-from-root : (k n low : ℕ) → low * low ≤ n → n < (low + 2 ^ k) * (low + 2 ^ k) → Root n (rootFrom k n low)
+pub from-root : (k n low : ℕ) → low * low ≤ n → n < (low + 2 ^ k) * (low + 2 ^ k) → Root n (rootFrom k n low)
 unfolding rootFrom
 from-root zero n low h g = record { below = h; above = g }
 from-root (suc k) n low h g =
@@ -72,28 +71,3 @@ root-ge n m h k = by (decLe m (root n))
 
 pub root-le : (n m : ℕ) → n < 2 ^ 64 → n ≤ m * m → root n ≤ m
 root-le n m h k = le-of-square-le (root n) m (omega (arith, root-root n h .below))
-
--- ---- Newton's step
-
--- the mean of x and n / x
-abbrev pub closer : ℕ → ℕ → ℕ
-closer n x = (x + n / x) / 2
-
--- is never below the root (the mean of two numbers is no less than the root of their product)
-pub closer-above : (n x : ℕ) → 0 < x → n < (closer n x + 1) * (closer n x + 1)
-closer-above n x h =
-    let q = n / x in
-    let y = closer n x in
-    let below : n < q * x + x = lt-div-mul-add {a = n} {b = x} h in
-    let twice : x + (q + 1) ≤ 2 * (y + 1) = omega arith in
-    omega (arith, two-products-le x (q + 1), mul-le-mul twice twice)
-
--- and where it is no nearer, x was the root
-pub closer-root : (n x : ℕ) → n < (x + 1) * (x + 1) → x ≤ closer n x → Root n x
-closer-root n x h k = record {
-  below = omega (arith, div-mul-le-self n x, mul-le-mul-right x (quotient k));
-  above = h;
-}
-  where
-    quotient : x ≤ closer n x → x ≤ n / x
-    quotient k = omega arith

@@ -9,6 +9,7 @@ pub mod Demand2
 pub mod Demand2Answers
 pub mod Demand2OfFunctions
 pub mod Aberration
+pub mod WholeRoot
 pub mod NoAngle
 pub mod NoAnglePrinted
 pub mod NoAngleOfFunctions

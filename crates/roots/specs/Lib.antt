@@ -1,3 +1,3 @@
--- What the private functions of this crate ask and tell.
-pub mod Trial
+-- What the functions of this crate ask and tell.
 pub mod NearSquare
+pub mod Trials

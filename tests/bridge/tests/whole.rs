@@ -16,6 +16,9 @@ const MOST_OTHER_FACTOR: i64 = 1 << 60;
 const MOST_PRODUCT_DIVISOR: i64 = 1 << 42;
 const MOST_QUOTIENT: i64 = 1 << 61;
 
+/// The root of the largest number.
+const MOST_ROOT: i64 = 3_037_000_499;
+
 /// Met and the value where the conditions hold, else two noughts.
 fn tried(condition: bool, value: impl FnOnce() -> Whole) -> [i64; 2] {
     if condition {
@@ -122,20 +125,42 @@ fn rnd_product_quotient() {
 
 #[test]
 fn roots() {
+    compare(&WHOLE_ROOT, "every one to 2,000,000", (0..=2_000_000).map(|n| [n]), whole_root);
+
     let ends = around(&[i64::MIN, 0, i64::MAX], 1000);
     compare(&WHOLE_ROOT, "ends", ends.iter().map(|n| [*n]), whole_root);
-
-    // a square and its neighbours; 3,037,000,499 is the root of the largest number
-    let mut chance = Chance::new("roots, squares");
-    let squares = (0..RANDOM).map(|_| {
-        let side = chance.of_any_size(0, 3_037_000_499);
-        [side * side + chance.within(-1, 1)]
-    });
-    compare(&WHOLE_ROOT, "squares", squares, whole_root);
 
     let mut chance = Chance::new("roots");
     let random = (0..RANDOM).map(|_| [chance.of_any_size(-1000, i64::MAX)]);
     compare(&WHOLE_ROOT, "random", random, whole_root);
+}
+
+#[test]
+fn roots_of_squares() {
+    // a square and its neighbours
+    let mut chance = Chance::new("roots, squares");
+    let squares = (0..RANDOM).map(|_| {
+        let side = chance.of_any_size(0, MOST_ROOT);
+        [side * side + chance.within(-1, 1)]
+    });
+    compare(&WHOLE_ROOT, "squares", squares, whole_root);
+
+    let sides = MOST_ROOT - 100_000..=MOST_ROOT;
+    let top = sides.flat_map(|side| [-1, 0, 1].map(|more| [side * side + more]));
+    compare(&WHOLE_ROOT, "squares at the top", top, whole_root);
+}
+
+/// The first power of two that is tried depends on the length of n in bits alone.
+#[test]
+fn roots_of_every_length() {
+    let mut chance = Chance::new("roots, lengths");
+    let numbers = (1..=63).flat_map(|bits| {
+        let (low, high) = (1 << (bits - 1), i64::MAX >> (63 - bits));
+        let mut of_the_length = vec![low, low + 1, high - 1, high];
+        of_the_length.extend((0..2000).map(|_| chance.within(low, high)));
+        of_the_length
+    });
+    compare(&WHOLE_ROOT, "lengths in bits", numbers.map(|n| [n]), whole_root);
 }
 
 #[test]
