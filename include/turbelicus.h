@@ -1,11 +1,11 @@
-/* Turbelicus: the apparent place of a star, its altitude as the air lifts it, turns of a direction, the reading of an
- * angle, and the star list file.
+/* Turbelicus: the apparent place of a star, its altitude as the air lifts it, the UTC date and time of a TT instant,
+ * turns of a direction, the reading of an angle, and the star list file.
  *
  * Every function answers every number, every float and every byte that it is given: there is none that C must test first.
  * It keeps nothing from one call to the next, so that calls may go on side by side.
  *
  * Units: angles in microarcseconds (the circle is 1,296,000,000,000), motions in microarcseconds a year, parts of a
- * direction in parts of 2^30, pressure in hPa, temperature in degrees Celsius.
+ * direction in parts of 2^30, pressure in hPa, temperature in degrees Celsius, instants in ms of TT from J2000.0.
  *
  * Refusals. An answer that may be refused is a struct. Its `refused` is 0 and the other fields are the answer; or it is
  * the number of the first of these that applies, and the other fields are 0 (of turbelicus_weather alone, the record as it
@@ -27,6 +27,7 @@
  *   13  length to be divided by is nought: no function here answers with these two
  *   14  weather: a reading not accepted, pressure not 500 to 1,100 hPa or temperature not -50 to 50 degrees, or no such kind
  *       of reading; after all others
+ *   20  TT before the first ms of 1972 or after the last of 2099, in UTC: of turbelicus_utc alone
  *
  * No angle. A star that stands exactly at a pole has no right ascension, and one at the zenith or the nadir has no
  * azimuth; (0, 0) has no angle to read. That is no refusal: the flag of the angle, `has_ra`, `has_azimuth` or
@@ -65,6 +66,20 @@ struct turbelicus_placed turbelicus_place(int32_t year, int32_t month, int32_t d
                                           int32_t second, int32_t ms, int32_t ut1_minus_utc, int64_t latitude,
                                           int64_t longitude, int64_t ra, int64_t declination, int32_t ra_motion,
                                           int32_t declination_motion);
+
+struct turbelicus_clocked {
+    int64_t refused;
+    int32_t year, month, day, hour, minute, second;
+    int64_t ms;
+};
+
+/* The UTC date and time of day of a TT instant.
+ *
+ * Given: TT, any number.
+ * Returned: the one UTC date and time of day that has this TT, 1972-01-01 00:00:00.000 to 2099-12-31 23:59:59.999.
+ * second is 60, with its own 1,000 ms, at 23:59:60 of the day before a step of TAI-UTC alone. UT1-UTC plays no part.
+ * Refused: 20, exactly where tt is not -883,655,957,816 to 3,155,716,869,183. */
+struct turbelicus_clocked turbelicus_utc(int64_t tt);
 
 /* The weather record: the latest pressure and the latest air temperature that a probe has handed over, and whether each
  * has come. C keeps it and lends its four numbers to each call, which looks at them again.

@@ -16,7 +16,7 @@ TREE = pathlib.Path(__file__).resolve().parent.parent
 WIDTH = 120
 
 # what these crates answer comes from outside, so no contract can say it: docs/PROMISES.md lists their functions
-FROM_OUTSIDE = {"input"}
+FROM_OUTSIDE = {"input", "line_program"}
 
 # a public function: its name, parameters, answer and clauses
 FUNCTION = re.compile(

@@ -18,6 +18,9 @@ PAGES = ["README.md", "docs/RULES.md"]
 HEADER = "include/turbelicus.h"
 SECOND = "tests/second/src/refusals.rs"
 
+# the numbers of document 02 whose requests have not landed
+NOT_YET = range(15, 20)
+
 Rows = list[tuple[int, str]]
 
 
@@ -73,17 +76,18 @@ def spoken_of() -> list[tuple[str, int]]:
 
 def main() -> None:
     names = the_list()
-    listed = list(enumerate((constant(name) for name in names), 1))
+    numbers = [number for number in range(1, len(names) + len(NOT_YET) + 1) if number not in NOT_YET][:len(names)]
+    listed = list(zip(numbers, map(constant, names)))
     copies = copies_with_names()
     faults = [
         f"{path}: not as the list has it: {sorted(set(rows) ^ set(listed)) or 'the order'}"
         for path, rows in copies if rows != listed
     ]
-    for path, numbers in tables():
-        if numbers != [number for number, _ in listed]:
-            faults.append(f"{path}: the table has the numbers {numbers}, the list 1 to {len(names)}")
+    for path, rows in tables():
+        if rows != numbers:
+            faults.append(f"{path}: the table has the numbers {rows}, the list {numbers}")
     # 0 is that of a line of another form
-    faults += [f"{path}: there is no refusal {number}" for path, number in spoken_of() if number > len(names)]
+    faults += [f"{path}: there is no refusal {number}" for path, number in spoken_of() if number not in [0, *numbers]]
     print("\n".join([*faults, f"{len(names)} refusals, {len(copies) + len(tables())} copies; {len(faults)} faults"]))
     sys.exit(1 if faults or not names else 0)
 

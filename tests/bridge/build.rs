@@ -3,7 +3,7 @@
 use std::path::PathBuf;
 use std::{env, fs};
 
-const SUBJECTS: [&str; 11] = [
+const SUBJECTS: [&str; 12] = [
     "whole",
     "circle",
     "turning",
@@ -11,6 +11,7 @@ const SUBJECTS: [&str; 11] = [
     "dates",
     "earth",
     "place",
+    "utc",
     "weather",
     "list_file",
     "entries",

@@ -66,6 +66,7 @@ static float float_of(int64_t word) {
     FUNCTION(turbelicus_place, 14, struct turbelicus_placed, narrow(given[0]), narrow(given[1]), narrow(given[2]),     \
              narrow(given[3]), narrow(given[4]), narrow(given[5]), narrow(given[6]), narrow(given[7]), given[8],       \
              given[9], given[10], given[11], narrow(given[12]), narrow(given[13]))                                     \
+    FUNCTION(turbelicus_utc, 1, struct turbelicus_clocked, given[0])                                                   \
     FUNCTION(turbelicus_weather, 6, struct turbelicus_weathered, float_of(given[0]), float_of(given[1]),               \
              narrow(given[2]), narrow(given[3]), narrow(given[4]), float_of(given[5]))                                 \
     FUNCTION(turbelicus_observed_altitude, 5, struct turbelicus_altitude, given[0], float_of(given[1]),                \

@@ -6,39 +6,15 @@
 set -eu
 
 here=$(cd "$(dirname "$0")" && pwd -P)
-top=$(cd "$here/../.." && pwd -P)
-program=$top/target/bin/times
-work=$(mktemp -d)
-trap 'rm -rf "$work"' EXIT
+name=times
 line='2000-01-01 12:00:00.000 0'
 answer='0 0 64184'
-
-# what the program says goes to $work/err, whatever it prints to $work/out, or where a case sends it
-run() { "$here/../host.sh" run "$program" "$@" 2>"$work/err"; }
-
-failed() { echo "times: $1: FAILED"; exit 1; }
-
-same() { # same NAME EXPECTED: $work/out is as a file, and nothing was said
-    cmp "$work/out" "$2" || failed "$1"
-    [ ! -s "$work/err" ] || failed "$1"
-    echo "times: $1: as expected"
-}
-
-said() { # said NAME BEGINNING: one line was said, which begins so, and nothing printed
-    [ ! -s "$work/out" ] || failed "$1"
-    [ "$(wc -l <"$work/err")" -eq 1 ] || failed "$1"
-    case $(cat "$work/err") in
-    "$2"?*) echo "times: $1: said" ;;
-    *) failed "$1" ;;
-    esac
-}
-
-lines() { yes "$1" | head -n "$2"; } # lines TEXT COUNT
+. "$here/../line_program.sh"
 
 # ---- what is printed
 
-run <"$top/crates/times/stdin" >"$work/out"
-same "the sample of document 01" "$top/crates/times/stdout"
+run <"$stored/stdin" >"$work/out"
+same "the sample of document 01" "$stored/stdout"
 
 run <"$here/long.in" >"$work/out"
 same "long.in" "$here/long.out"
@@ -78,13 +54,6 @@ for size in 1014 1023 1024 1025 1039 1040; do
 done
 
 # a caller may wait for the header before it writes a line, and for the answer before it writes another
-soon() { # soon NAME EXPECTED: as `same`, within ten seconds
-    for second in 1 2 3 4 5 6 7 8 9 10; do
-        ! cmp -s "$work/out" "$2" || break
-        sleep 1
-    done
-    same "$1" "$2"
-}
 mkfifo "$work/fifo"
 : >"$work/out"
 run <"$work/fifo" >"$work/out" &
@@ -97,28 +66,6 @@ exec 3>&-
 wait
 same "and nothing more at the end" "$work/expected"
 
-# ---- what cannot be read or written: one line on standard error
+# ---- what cannot be read or written
 
-run </ >"$work/out"
-said "a folder as standard input" 'times: standard input: '
-
-run 0>"$work/in" >"$work/out"
-said "standard input open for writing alone" 'times: standard input: '
-
-: >"$work/out"
-run <"$work/lines" >/dev/full
-said "a full device as standard output" 'times: standard output: '
-
-run <"$work/lines" 1<"$work/in"
-said "standard output open for reading alone" 'times: standard output: '
-
-run any <"$work/lines" >"$work/out"
-said "an argument" 'usage: times'
-
-# the emulator opens files of its own, which may get the number of a closed descriptor
-if [ "$(uname -m)" = x86_64 ]; then
-    run >"$work/out" <&-
-    said "a closed standard input" 'times: standard input: '
-    run <"$work/lines" >&-
-    said "a closed standard output" 'times: standard output: '
-fi
+failures

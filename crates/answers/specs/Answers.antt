@@ -7,6 +7,7 @@ use Rattle.rules.specs.declared.Weathered.{Weathered}
 use Rattle.rules.specs.Units.{same}
 use Rattle.rules.specs.Refusals.{Answer}
 use Rattle.rules.specs.Answers.{weatheredNumber, weatheredRecord}
+use Rattle.answers.specs.declared.clocks.TurbelicusClocked.{TurbelicusClocked}
 use Rattle.answers.specs.declared.probe.TurbelicusWeathered.{TurbelicusWeathered}
 use Rattle.answers.specs.declared.observed.TurbelicusAltitude.{TurbelicusAltitude}
 use Rattle.answers.specs.declared.observed.TurbelicusObserved.{TurbelicusObserved}
@@ -16,6 +17,18 @@ use Rattle.answers.specs.declared.turns.TurbelicusRead.{TurbelicusRead}
 use Rattle.answers.specs.declared.lists.TurbelicusCounted.{TurbelicusCounted}
 use Rattle.answers.specs.declared.lists.TurbelicusStarred.{TurbelicusStarred}
 use Rattle.answers.specs.declared.lists.TurbelicusWritten.{TurbelicusWritten}
+
+unfoldable pub clockedOut : Answer → TurbelicusClocked
+clockedOut a = record {
+  refused = pos (a .number);
+  year = getD (a .values) 0 (pos 0);
+  month = getD (a .values) 1 (pos 0);
+  day = getD (a .values) 2 (pos 0);
+  hour = getD (a .values) 3 (pos 0);
+  minute = getD (a .values) 4 (pos 0);
+  second = getD (a .values) 5 (pos 0);
+  ms = getD (a .values) 6 (pos 0);
+}
 
 unfoldable pub placedOut : Answer → TurbelicusPlaced
 placedOut a = record {

@@ -2,6 +2,7 @@
 use mathlib.Core.Bool.{not, cond}
 use lib.IntN.{ℤ}
 use lib.Ieee.{Float}
+use Rattle.rules.specs.declared.Tt.{Tt}
 use Rattle.rules.specs.declared.Moment.{Moment}
 use Rattle.rules.specs.declared.Site.{Site}
 use Rattle.rules.specs.declared.Direction.{Direction}
@@ -18,6 +19,9 @@ momentOf year month day hour minute second ms «ut1_minus_utc» = record {
   time = record { hour = hour; minute = minute; second = second; ms = ms };
   «ut1_minus_utc» = «ut1_minus_utc»;
 }
+
+abbrev pub ttOf : ℤ → Tt
+ttOf t = record { 0 = t }
 
 abbrev pub siteOf : ℤ → ℤ → Site
 siteOf latitude longitude = record { latitude = latitude; longitude = longitude }

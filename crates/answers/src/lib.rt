@@ -1,6 +1,7 @@
 // The answers that C gets: a struct for each, the number of the refusal and noughts, or 0 and the
 // values.
 
+pub mod clocks;
 mod flags;
 pub mod lists;
 pub mod observed;

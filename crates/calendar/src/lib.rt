@@ -11,7 +11,7 @@ use whole::is_between;
 ghost use mathlib.Core.Path.{_≡_};
 ghost use Rattle.rules.specs.Calendar.{dayOf, dateOf};
 
-mod counts;
+pub mod counts;
 pub mod dates;
 mod years;
 

@@ -64,6 +64,7 @@ Told (Instants.Refused Refusal.Room) a b c d = ⊥
 Told (Instants.Refused Refusal.Instant) a b c d = ⊥
 Told (Instants.Refused Refusal.Length) a b c d = ⊥
 Told (Instants.Refused Refusal.Reading) a b c d = ⊥
+Told (Instants.Refused Refusal.Stretch) a b c d = ⊥
 
 told : (a b c d : Bool) (u : Ut) (t : Tt) → Told (answered a b c d u t) a b c d
 told true b c d u t = refl

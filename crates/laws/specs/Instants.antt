@@ -32,7 +32,7 @@ pub record RealTime (t : Time) : Type 0 where
   pub second : InRange 0 60 (t .second)
   pub ms : InRange 0 999 (t .ms)
 
-range-of : (low high : ℕ) (z : ℤ) → Between (pos low) (pos high) z → InRange low high z
+pub range-of : (low high : ℕ) (z : ℤ) → Between (pos low) (pos high) z → InRange low high z
 range-of low high z p = in-range low high z (between-iff _ _ z .1 p)
 
 wider : (z : ℤ) → InRange 0 59 z → InRange 0 60 z
@@ -137,7 +137,7 @@ pub instants-real : (m : Moment) (u : Ut) (t : Tt) → instants m ≡ Instants.A
 instants-real m u t e =
     let p = tells m (Instants.At u t) e in real-moment m (p .0) (p .1 .0) (p .1 .1 .0) (p .1 .1 .1)
 
-instants-at : (m : Moment) (u : Ut) (t : Tt) → instants m ≡ Instants.At u t → (utOf m ≡ u) × (ttOf m ≡ t)
+pub instants-at : (m : Moment) (u : Ut) (t : Tt) → instants m ≡ Instants.At u t → (utOf m ≡ u) × (ttOf m ≡ t)
 unfolding instants
 instants-at m u t e =
     let p = tells m (Instants.At u t) e in

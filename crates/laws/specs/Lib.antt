@@ -99,6 +99,13 @@ pub mod TimeOfDay
 pub mod Dates
 pub mod Instants
 pub mod OfNumbers
+-- UTC of a TT: the days laid end to end, accepted UTC times in their order, the stretch, the way back
+pub mod Days
+pub mod Clocks
+pub mod ClockOrder
+pub mod Stretch
+pub mod Utc
+pub mod NeverFold
 pub mod Bytes
 pub mod FileParts
 pub mod ByteByByte

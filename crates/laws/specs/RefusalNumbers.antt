@@ -7,7 +7,7 @@ use lib.Dec.{lit<}
 use Rattle.rules.specs.declared.Refusal.{Refusal}
 use Rattle.rules.specs.Refusals.{number}
 
--- in the order of their numbers
+-- those of 1 to 14, in the order of their numbers
 abbrev pub refusals : List Refusal
 refusals =
     Refusal.Year ∷ Refusal.Day ∷ Refusal.Time ∷ Refusal.Ut1MinusUtc ∷ Refusal.Star ∷ Refusal.Site ∷ Refusal.Direction
@@ -15,7 +15,7 @@ refusals =
     ∷ Refusal.Reading ∷ []
 
 abbrev refusalOf : ℕ → Refusal
-refusalOf n = getD refusals (n - 1) Refusal.Length
+refusalOf n = getD refusals (n - 1) Refusal.Stretch
 
 refusalOf-number : (r : Refusal) → refusalOf (number r) ≡ r
 unfolding number
@@ -33,6 +33,7 @@ refusalOf-number Refusal.Room = refl
 refusalOf-number Refusal.Instant = refl
 refusalOf-number Refusal.Length = refl
 refusalOf-number Refusal.Reading = refl
+refusalOf-number Refusal.Stretch = refl
 
 pub number-one : (r s : Refusal) → number r ≡ number s → r ≡ s
 number-one r s e = sym (refusalOf-number r) ∙ ap refusalOf e ∙ refusalOf-number s
@@ -53,3 +54,4 @@ number-pos Refusal.Room = lit< tt
 number-pos Refusal.Instant = lit< tt
 number-pos Refusal.Length = lit< tt
 number-pos Refusal.Reading = lit< tt
+number-pos Refusal.Stretch = lit< tt

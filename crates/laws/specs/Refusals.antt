@@ -8,11 +8,13 @@ use lib.Dec.{lit<}
 use lib.ListN.{length, getD}
 use lib.IntN.{ℤ, pos, natAbs}
 use Rattle.rules.specs.declared.Pair.{Pair}
+use Rattle.rules.specs.declared.Utc.{Utc}
 use Rattle.rules.specs.declared.Moment.{Moment}
 use Rattle.rules.specs.declared.Refusal.{Refusal}
 use Rattle.rules.specs.declared.Numbered.{Numbered}
 use Rattle.rules.specs.declared.Dated.{Dated}
 use Rattle.rules.specs.declared.Instants.{Instants}
+use Rattle.rules.specs.declared.Clocked.{Clocked}
 use Rattle.rules.specs.declared.Line.{Line}
 use Rattle.rules.specs.declared.Angle.{Angle}
 use Rattle.rules.specs.declared.Precessed.{Precessed}
@@ -23,9 +25,10 @@ use Rattle.rules.specs.declared.Prepared.{Prepared}
 use Rattle.rules.specs.declared.Listed.{Listed}
 use Rattle.rules.specs.declared.ListedStar.{ListedStar}
 use Rattle.rules.specs.Refusals.{Answer, given, refused, otherForm}
-use Rattle.rules.specs.Answers.{numberedAnswer, datedAnswer, instantsAnswer, momentNumbers, lineAnswer}
+use Rattle.rules.specs.Answers.{numberedAnswer, datedAnswer, instantsAnswer, clockedAnswer, momentNumbers, lineAnswer}
 use Rattle.rules.specs.Answers.{angleAnswer, precessedAnswer, fiveArgumentsAnswer, nutatedAnswer, turnedAnswer}
 use Rattle.rules.specs.Answers.{listedAnswer, listedStarAnswer, parts, preparedAnswer}
+use Rattle.rules.specs.Utc.{momentWith}
 use Rattle.laws.specs.RefusalNumbers.{number-pos, number-one}
 
 -- what is refused has a number that no answer has
@@ -69,17 +72,27 @@ instants-one (Instants.At ut tt) (Instants.Refused s) e = never s 2 _ e
 instants-one (Instants.Refused r) (Instants.At ut tt) e = never r 2 _ (sym e)
 instants-one (Instants.Refused r) (Instants.Refused s) e = ap Instants.Refused (same-refusal r s 2 e)
 
+-- seven numbers in the order of `utcNumbers`
+abbrev pub utcOfNumbers : List ℤ → Utc
+utcOfNumbers zs = record {
+  date = record { year = at zs 0; month = at zs 1; day = at zs 2 };
+  time = record { hour = at zs 3; minute = at zs 4; second = at zs 5; ms = at zs 6 };
+}
+
+pub clocked-one : (a b : Clocked) → clockedAnswer a ≡ clockedAnswer b → a ≡ b
+unfolding clockedAnswer
+clocked-one (Clocked.At u) (Clocked.At u′) e = ap (λ zs. Clocked.At (utcOfNumbers zs)) (same-values _ _ e)
+clocked-one (Clocked.At u) (Clocked.Refused s) e = never s 7 _ e
+clocked-one (Clocked.Refused r) (Clocked.At u) e = never r 7 _ (sym e)
+clocked-one (Clocked.Refused r) (Clocked.Refused s) e = ap Clocked.Refused (same-refusal r s 7 e)
+
 -- a line of another form has no values
 pub other-never : {A : Type 0} (zs : List ℤ) → 0 < length zs → given zs ≡ otherForm → A
 unfolding otherForm
 other-never zs h e = absurd (omega (arith, ap length (same-values zs [] e)))
 
 abbrev pub momentAt : List ℤ → Moment
-momentAt zs = record {
-  date = record { year = at zs 0; month = at zs 1; day = at zs 2 };
-  time = record { hour = at zs 3; minute = at zs 4; second = at zs 5; ms = at zs 6 };
-  «ut1_minus_utc» = at zs 7;
-}
+momentAt zs = momentWith (utcOfNumbers zs) (at zs 7)
 
 pub line-one : (a b : Line) → lineAnswer a ≡ lineAnswer b → a ≡ b
 unfolding lineAnswer momentNumbers

@@ -33,6 +33,24 @@ sum-take-le (n ∷ ns) (suc i) = omega (arith, sum-take-le ns i)
 pub place-lt : (ns : List ℕ) (i r : ℕ) → r < getD ns i 0 → sum (take i ns) + r < sum ns
 place-lt ns i r h = omega (arith, sum-take-suc ns i, sum-take-le ns (suc i))
 
+-- ---- the order of spans
+
+module _ (f : ℕ → ℕ) (step : (n : ℕ) → f n ≤ f (suc n)) where
+  by-steps : (n k m : ℕ) → n + k ≡ m → f n ≤ f m
+  by-steps n zero m e = let q : n ≡ m = omega arith in rw q (omega arith)
+  by-steps n (suc k) m e =
+      let q : m ≡ suc (n + k) = omega arith in rw q (omega (arith, by-steps n k (n + k) refl, step (n + k)))
+
+  -- what does not fall from a number to the next falls nowhere
+  pub grows : (n k : ℕ) → n ≤ k → f n ≤ f k
+  grows n k h = by-steps n (k - n) k (omega arith)
+
+-- a day of an earlier span comes before each of a later one
+pub earlier-span : (ns : List ℕ) (i k r : ℕ) → i < k → r < getD ns i 0 → sum (take i ns) + r < sum (take k ns)
+earlier-span ns i k r h l =
+    let step : (n : ℕ) → sum (take n ns) ≤ sum (take (suc n) ns) = λ n. omega (arith, sum-take-suc ns n) in
+    omega (arith, sum-take-suc ns i, grows (λ n. sum (take n ns)) step (suc i) k (omega arith))
+
 -- ---- where a number falls
 
 -- f is where day n falls

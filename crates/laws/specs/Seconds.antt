@@ -81,10 +81,10 @@ no : (b : Bool) → T (not b) → b ≡ false
 no true t = absurd t
 no false t = refl
 
-le-yes : (x y : ℤ) → posPart x + negPart y ≤ posPart y + negPart x → leZ x y ≡ true
+pub le-yes : (x y : ℤ) → posPart x + negPart y ≤ posPart y + negPart x → leZ x y ≡ true
 le-yes x y h = yes (leZ x y) (le-of-sizes x y h .le)
 
-le-no : (x y : ℤ) → posPart y + negPart x < posPart x + negPart y → leZ x y ≡ false
+pub le-no : (x y : ℤ) → posPart y + negPart x < posPart x + negPart y → leZ x y ≡ false
 le-no x y h = go (leZ x y) refl
   where
     go : (b : Bool) → leZ x y ≡ b → leZ x y ≡ false

@@ -83,7 +83,7 @@ instants-of-refused m r e =
 
 -- ---- a room of 64 bytes is enough
 
-pub number-le : (r : Refusal) → number r ≤ 14
+pub number-le : (r : Refusal) → number r ≤ 20
 unfolding number
 number-le Refusal.Year = lit≤ tt
 number-le Refusal.Day = lit≤ tt
@@ -99,8 +99,9 @@ number-le Refusal.Room = lit≤ tt
 number-le Refusal.Instant = lit≤ tt
 number-le Refusal.Length = lit≤ tt
 number-le Refusal.Reading = lit≤ tt
+number-le Refusal.Stretch = lit≤ tt
 
-pub refused-line-le : (n : ℕ) → n ≤ 14 → length (refusedLine n) ≤ 28
+pub refused-line-le : (n : ℕ) → n ≤ 20 → length (refusedLine n) ≤ 28
 unfolding refusedLine
 refused-line-le n h = omega (arith, length-decimal (pos n) (word-limit (pos n) (omega arith)))
 

@@ -2,6 +2,7 @@
 use mathlib.Core.Path.{_≡_}
 use mathlib.Core.List.{List, [], _∷_, _++_}
 use Prim.Native.Nat.{ℕ}
+use Rattle.line_reads.specs.declared.Program.{Program}
 use Rattle.line_reads.specs.declared.Start.{Start}
 use Rattle.line_reads.specs.Reads.{answersOf, startOfNext}
 
@@ -18,6 +19,6 @@ GoingOn ([] ∷ reads) = ⊥
 GoingOn ((b ∷ bytes) ∷ reads) = GoingOn reads
 
 -- the answers of reads, one after another
-unfoldable pub answersOfAll : Start → List (List ℕ) → List ℕ
-answersOfAll s [] = []
-answersOfAll s (read ∷ reads) = answersOf s read ++ answersOfAll (startOfNext s read) reads
+unfoldable pub answersOfAll : Program → Start → List (List ℕ) → List ℕ
+answersOfAll p s [] = []
+answersOfAll p s (read ∷ reads) = answersOf p s read ++ answersOfAll p (startOfNext s read) reads

@@ -1,5 +1,5 @@
 -- What the contracts of this crate cite beside the rules; what is known of it; and that the cuts between reads leave
--- `times` as it is.
+-- `times` and `dates` as they are.
 pub mod Reads
 pub mod Inputs
 pub mod Lengths

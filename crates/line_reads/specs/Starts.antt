@@ -9,11 +9,12 @@ use lib.Dec.{ltb, lit≤}
 use lib.ListN.{length, take, set, length-set, length-append}
 use lib.Seq.{take-all, take-append-le, take-suc-set}
 use borrow.Author.Tests.{ltb-true, ltb-false}
-use Rattle.rules.specs.Lines.{lineOf}
 use Rattle.rules.specs.Times.{printed, newline}
 use Rattle.laws.specs.Lines.{line-cut}
+use Rattle.line_dates.specs.DateLaws.{date-cut}
+use Rattle.line_reads.specs.declared.Program.{Program}
 use Rattle.line_reads.specs.declared.Start.{Start}
-use Rattle.line_reads.specs.Reads.{held, none, withByte, answered}
+use Rattle.line_reads.specs.Reads.{answeredBy, held, none, withByte, answered}
 
 -- s keeps the line so far: all of it, or its first 32 bytes
 pub record Keeps (s : Start) (line : List ℕ) : Type 0 where
@@ -55,7 +56,13 @@ module _ (s : Start) (line : List ℕ) (k : Keeps s line) (b : ℕ) where
             front = k .front ∙ sym (take-append-le 32 line (b ∷ []) h);
           }
 
-pub keeps-answer : (s : Start) (line : List ℕ) → Keeps s line → answered s ≡ printed (lineOf line) ++ newline ∷ []
+-- a longer line is of another form, and so are its first 32 bytes
+answer-cut : (p : Program) (line : List ℕ) → answeredBy p (take 32 line) ≡ answeredBy p line
+unfolding answeredBy
+answer-cut Program.Times line = ap printed (line-cut line 32 (lit≤ tt))
+answer-cut Program.Dates line = date-cut line 32 (lit≤ tt)
+
+pub keeps-answer : (p : Program) (s : Start) (line : List ℕ) → Keeps s line
+    → answered p s ≡ answeredBy p line ++ newline ∷ []
 unfolding answered
-keeps-answer s line k =
-    ap (λ l. printed l ++ newline ∷ []) (ap lineOf (k .front) ∙ line-cut line 32 (lit≤ tt))
+keeps-answer p s line k = ap (λ l. l ++ newline ∷ []) (ap (answeredBy p) (k .front) ∙ answer-cut p line)

@@ -1,6 +1,7 @@
 // The bytes of a read, one after another.
 
 use crate::AfterRead;
+use crate::Program;
 use crate::Start;
 use crate::starts::empty;
 use crate::starts::put_answer;
@@ -12,13 +13,14 @@ ghost use lib.Seq.{sets};
 ghost use Rattle.line_reads.specs.Reads as reads;
 
 // One byte more of the input; `at` is where the next answer goes.
-fn answer_byte(start: Start, b: u8, at: usize, out: &mut [u8]) -> AfterRead
+fn answer_byte(program: Program, start: Start, b: u8, at: usize, out: &mut [u8]) -> AfterRead
     requires { ⌜ at + 64 ≤ length (now out) ⌝ }
-    ensures { λ r. ⌜ r ≡ reads.byteStep start b at ⌝ }
-    ensures { λ _. ⌜ now (out .exit) ≡ sets (now (out .entry)) at (reads.answerAt start b) ⌝ }
+    ensures { λ r. ⌜ r ≡ reads.byteStep program start b at ⌝ }
+    ensures { λ _. ⌜ now (out .exit)
+        ≡ sets (now (out .entry)) at (reads.answerAt program start b) ⌝ }
 {
     if b == b'\n' {
-        let n = put_answer(start, &mut out[at..]);
+        let n = put_answer(program, start, &mut out[at..]);
         let none = empty();
         return AfterRead {
             start: none,
@@ -33,17 +35,17 @@ fn answer_byte(start: Start, b: u8, at: usize, out: &mut [u8]) -> AfterRead
 }
 
 // All bytes of a read.
-pub fn answer_bytes(start: Start, input: &[u8], out: &mut [u8]) -> AfterRead
+pub fn answer_bytes(program: Program, start: Start, input: &[u8], out: &mut [u8]) -> AfterRead
     requires { ⌜ 64 * length (now input) ≤ length (now out) ⌝ }
-    ensures { λ r. ⌜ r ≡ reads.bytesStep start (now (input .entry)) ⌝ }
+    ensures { λ r. ⌜ r ≡ reads.bytesStep program start (now (input .entry)) ⌝ }
     ensures { λ _. ⌜ now (out .exit)
-        ≡ sets (now (out .entry)) 0 (reads.answersTo start (now (input .entry))) ⌝ }
+        ≡ sets (now (out .entry)) 0 (reads.answersTo program start (now (input .entry))) ⌝ }
 {
     let mut line = start;
     let mut at: usize = 0;
     let mut i: usize = 0;
     while i < input.len() {
-        let after = answer_byte(line, input[i], at, out);
+        let after = answer_byte(program, line, input[i], at, out);
         line = after.start;
         at = after.written;
         i += 1;

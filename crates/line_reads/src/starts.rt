@@ -1,6 +1,8 @@
 // The start of a line, and its answer.
 
+use crate::Program;
 use crate::Start;
+use crate::programs::print_answer;
 ghost use mathlib.Core.Path.{_≡_};
 ghost use Prim.Native.Nat.{_≤_, min};
 ghost use lib.ListN.{length};
@@ -38,14 +40,14 @@ pub fn at_most(n: usize, most: usize) -> usize
 }
 
 // Puts the answer of a line, with its end, at the front of the room.
-pub fn put_answer(start: Start, out: &mut [u8]) -> usize
+pub fn put_answer(program: Program, start: Start, out: &mut [u8]) -> usize
     requires { ⌜ 64 ≤ length (now out) ⌝ }
-    ensures { λ r. ⌜ r ≡ length (answered start) ⌝ }
-    ensures { λ _. ⌜ now (out .exit) ≡ sets (now (out .entry)) 0 (answered start) ⌝ }
+    ensures { λ r. ⌜ r ≡ length (answered program start) ⌝ }
+    ensures { λ _. ⌜ now (out .exit) ≡ sets (now (out .entry)) 0 (answered program start) ⌝ }
 {
     let bytes = start.bytes;
     let len = at_most(start.len, 32);
-    let n = line_times::print_line(&bytes[..len], out);
+    let n = print_answer(program, &bytes[..len], out);
     out[n] = b'\n';
     n + 1
 }

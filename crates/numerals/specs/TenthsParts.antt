@@ -1,17 +1,16 @@
 -- The parts of a number in tenths, with a point and without.
 use mathlib.Core.Path.{_≡_, refl, sym, ap, _∙_}
 use mathlib.Core.Bool.{Bool, true, false, cond, _&&_}
-use mathlib.Core.List.{List, [], _∷_}
-use Prim.Native.Nat.{ℕ, _+_, _-_, _*_, _^_, _≤_, _<_}
-use native.Mathlib.Nat.{pow-succ', mul-le-mul-right}
+use mathlib.Core.List.{List}
+use Prim.Native.Nat.{ℕ, _+_, _-_, _*_, _≤_, _<_}
 use native.Mathlib.Omega.{arith}
-use lib.Dec.{eqb, leb, leb→le}
+use lib.Dec.{eqb, leb}
 use lib.ListN.{length, take, getD}
 use borrow.Author.Tests.{leb-true, le-leb, lt-leb}
-use Rattle.rules.specs.Numerals.{point, nought, isDigit, digits, alike, ofForm, ofDigits, spelled}
-use Rattle.laws.specs.Every.{every-at}
+use Rattle.rules.specs.Numerals.{point, nought, isDigit, ofDigits, spelled}
 use Rattle.laws.specs.Ranges.{both-true}
 use Rattle.laws.specs.Lines.{of-digits-le}
+use Rattle.numerals.specs.Digits.{digit-le, digits-lt}
 use Rattle.numerals.specs.Tenths.{hasPoint, beforePoint, afterPoint, ofSize, sizeOf}
 
 -- ---- the point
@@ -71,35 +70,8 @@ of-size-le bs e = of-digits-le 4 (beforePoint bs) (both-true (ofDigits 4 (before
 
 -- ---- how large it is
 
-digit-le : (b : ℕ) → isDigit b ≡ true → b - nought ≤ 9
-unfolding isDigit
-digit-le b e = omega (arith, leb-true b 57 (both-true (leb nought b) (leb b 57) e .1))
-
--- one digit more
-digit-more : (s n d p : ℕ) → d ≤ 9 → s < (10 * n + d + 1) * p → s < (n + 1) * (10 * p)
-digit-more s n d p h k = omega (arith, mul-le-mul-right p h)
-
-digits-lt : (n : ℕ) (bs : List ℕ) → ofForm (digits (length bs)) bs ≡ true → spelled n bs < (n + 1) * 10 ^ length bs
-unfolding spelled ofForm alike isDigit
-digits-lt n [] e = omega arith
-digits-lt n (b ∷ bs) e =
-    let u = both-true (isDigit b) (ofForm (digits (length bs)) bs) e in
-    let d = b - nought in
-    rw (pow-succ' 10 (length bs))
-    (digit-more _ n d (10 ^ length bs) (digit-le b (u .0)) (digits-lt (10 * n + d) bs (u .1)))
-
-pow-le : (k : ℕ) → k ≤ 4 → 10 ^ k ≤ 10000
-pow-le k h = leb→le (10 ^ k) 10000 (every-at (λ k. leb (10 ^ k) 10000) 5 k tt (omega arith))
-
 pub size-le : (bs : List ℕ) → ofSize bs ≡ true → sizeOf bs ≤ 99999
-unfolding ofSize sizeOf ofDigits
+unfolding ofSize sizeOf
 size-le bs e =
     let u = both-true (ofDigits 4 (beforePoint bs)) (isDigit (afterPoint bs)) e in
-    let whole = beforePoint bs in
-    let v = both-true (leb 1 (length whole) && leb (length whole) 4) (ofForm (digits (length whole)) whole) (u .0) in
-    omega (
-      arith,
-      digits-lt 0 whole (v .1),
-      pow-le (length whole) (of-digits-le 4 whole (u .0) .1),
-      digit-le (afterPoint bs) (u .1),
-    )
+    omega (arith, digits-lt 4 (beforePoint bs) (u .0), digit-le (afterPoint bs) (u .1))

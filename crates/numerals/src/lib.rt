@@ -7,6 +7,7 @@ ghost use lib.IntN.{pos, natAbs};
 ghost use lib.ListN.{length};
 ghost use Rattle.rules.specs.Numerals as rule;
 ghost use Rattle.laws.specs.Lines as law;
+ghost use Rattle.numerals.specs.Digits.{Spellable};
 
 pub mod fields;
 pub mod tenths;
@@ -66,7 +67,7 @@ fn value(b: u8) -> i64
 
 // The number that a row of digits spells.
 fn spelled(s: &[u8]) -> i64
-    requires { ⌜ length (now s) ≤ 12 ⌝ }
+    requires { ⌜ Spellable (now s) ⌝ }
     ensures { λ r. ⌜ (r ≡ pos (rule.spelled 0 (now (s .entry))))
         × (natAbs r ≤ law.most (length (now (s .entry)))) ⌝ }
 {
@@ -81,7 +82,7 @@ fn spelled(s: &[u8]) -> i64
 
 // The number that digits spell, with their sign.
 pub fn signed(s: &[u8]) -> i64
-    requires { ⌜ length (rule.unsigned (now s)) ≤ 12 ⌝ }
+    requires { ⌜ Spellable (rule.unsigned (now s)) ⌝ }
     ensures { λ r. ⌜ (r ≡ rule.signed (now (s .entry)))
         × (natAbs r ≤ law.most (length (rule.unsigned (now (s .entry))))) ⌝ }
 {

@@ -13,6 +13,7 @@ use denote.Ref.{now}
 use denote.Triple.Clauses.{Clauses}
 use Rattle.rules.specs.Calendar.{dayOf, dateOf}
 use Rattle.rules.specs.Dates as dates
+use Rattle.rules.specs.Utc.{utcOfTt}
 use Rattle.rules.specs.Precession.{precessionAt, obliquityAt}
 use Rattle.rules.specs.Arguments.{argumentsAt}
 use Rattle.rules.specs.Nutation.{nutationAt}
@@ -32,6 +33,7 @@ use Rattle.promises.specs.Contracts.{Tells}
 use Rattle.calendar.proofs.day_of as day-of
 use Rattle.calendar.proofs.date_of as date-of
 use Rattle.instants.proofs.instants as instants
+use Rattle.utc.proofs.utc_of_tt as utc-of-tt
 use Rattle.precession.proofs.precession as precession
 use Rattle.precession.proofs.obliquity as obliquity
 use Rattle.arguments.proofs.arguments as arguments
@@ -67,6 +69,10 @@ module _ {M : Type 1} (𝓤 : URA M) (H : Heap 𝓤) (A : Atoms 𝓤) (mem : Mem
   pub instants-answers : Tells 𝓤 instants.ended (instants.clauses 𝓤 H A mem run)
       (λ κs passed a x. a ≡ dates.instants (passed .0))
   instants-answers κs passed g a x = id⊢ 𝓤 _
+
+  pub utc-of-tt-answers : Tells 𝓤 utc-of-tt.ended (utc-of-tt.clauses 𝓤 H A mem run)
+      (λ κs passed a x. a ≡ utcOfTt (passed .0))
+  utc-of-tt-answers κs passed g a x = id⊢ 𝓤 _
 
   -- ---- angles at an instant
 

@@ -11,7 +11,8 @@ use contract.Monad.{Fun}
 use denote.Ref.{now}
 use denote.Triple.Clauses.{Clauses}
 use Rattle.rules.specs.Answers.{placedAnswer, angleAnswer, observedAnswer, turnedAnswer, listedAnswer, listedStarAnswer}
-use Rattle.rules.specs.Answers.{readAnswer}
+use Rattle.rules.specs.Answers.{clockedAnswer, readAnswer}
+use Rattle.rules.specs.Utc.{utcOfTt}
 use Rattle.rules.specs.Turning.{turned}
 use Rattle.rules.specs.Reading.{reading}
 use Rattle.rules.specs.Place.{place}
@@ -19,10 +20,11 @@ use Rattle.rules.specs.Refraction.{observedAltitude, observedPlace}
 use Rattle.rules.specs.ListReading.{listCount, listStar}
 use Rattle.rules.specs.ListWriting.{numbersWritten, roomAfterNumbers}
 use Rattle.stars.specs.Numbers.{starOf}
-use Rattle.answers.specs.Given.{momentOf, siteOf, directionOf, weatherOf, takenByKind}
-use Rattle.answers.specs.Answers.{weatheredOut, altitudeOut, observedOut}
+use Rattle.answers.specs.Given.{ttOf, momentOf, siteOf, directionOf, weatherOf, takenByKind}
+use Rattle.answers.specs.Answers.{clockedOut, weatheredOut, altitudeOut, observedOut}
 use Rattle.answers.specs.Answers.{placedOut, turnedOut, readOut, countedOut, starredOut, writtenOut}
 use Rattle.promises.specs.Contracts.{Tells}
+use Rattle.module.proofs.clocks.turbelicus_utc as turbelicus-utc
 use Rattle.module.proofs.places.turbelicus_place as turbelicus-place
 use Rattle.module.proofs.turns.turbelicus_turn as turbelicus-turn
 use Rattle.module.proofs.turns.turbelicus_reading as turbelicus-reading
@@ -34,6 +36,11 @@ use Rattle.module.proofs.lists.turbelicus_list_star as turbelicus-list-star
 use Rattle.module.proofs.lists.turbelicus_list_write as turbelicus-list-write
 
 module _ {M : Type 1} (𝓤 : URA M) (H : Heap 𝓤) (A : Atoms 𝓤) (mem : Memory → SProp 𝓤) (run : Routine → Fun 𝓤) where
+  -- TT
+  pub turbelicus-utc-answers : Tells 𝓤 turbelicus-utc.ended (turbelicus-utc.clauses 𝓤 H A mem run)
+      (λ κs passed a x. a ≡ clockedOut (clockedAnswer (utcOfTt (ttOf (passed .0)))))
+  turbelicus-utc-answers κs passed g a x = id⊢ 𝓤 _
+
   -- year, month, day; hour, minute, second, ms, UT1−UTC; latitude, longitude; the star's four numbers
   pub turbelicus-place-answers : Tells 𝓤 turbelicus-place.ended (turbelicus-place.clauses 𝓤 H A mem run)
       (λ κs date a x.

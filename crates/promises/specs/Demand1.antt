@@ -12,6 +12,7 @@ pub mod InOrder
 pub mod Asks
 pub mod AsksForTests
 pub mod Dates
+pub mod Clocks
 pub mod Instants
 pub mod Turns
 pub mod Places

@@ -10,6 +10,8 @@ pub mod Demand2Answers
 pub mod Demand2OfFunctions
 pub mod Aberration
 pub mod WholeRoot
+pub mod NeverFold
+pub mod NeverFoldOfFunctions
 pub mod NoAngle
 pub mod NoAnglePrinted
 pub mod NoAngleOfFunctions
@@ -21,5 +23,7 @@ pub mod Demand3OfCalls
 pub mod Errors
 pub mod RoundTrips
 pub mod HeldTo
+pub mod ProgramLines
 pub mod ProgramTimes
+pub mod ProgramDates
 pub mod ProgramPlaces

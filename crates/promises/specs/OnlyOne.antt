@@ -14,6 +14,7 @@ pub mod Turning
 pub mod Calendar
 pub mod TimeOfDay
 pub mod Instants
+pub mod Utc
 pub mod Polynomials
 pub mod Arguments
 pub mod Precession
@@ -42,6 +43,7 @@ pub mod Decimals
 pub mod Numerals
 pub mod Sexagesimal
 pub mod LineTimes
+pub mod LineDates
 pub mod LineReads
 pub mod LineAsked
 pub mod LineEntries

@@ -8,7 +8,7 @@ ghost use Rattle.rules.specs.Refusals as rule;
 // The number of a refusal.
 //
 // Given: why nothing is answered.
-// Returned: from 1 to 14.
+// Returned: 1 to 14, or 20.
 // Rule: docs/RULES.md, "Refusal numbers".
 pub fn number(r: Refusal) -> i64
     ensures { λ n. ⌜ n ≡ pos (rule.number r) ⌝ }
@@ -28,5 +28,6 @@ pub fn number(r: Refusal) -> i64
         Refusal::Instant => 12,
         Refusal::Length => 13,
         Refusal::Reading => 14,
+        Refusal::Stretch => 20,
     }
 }

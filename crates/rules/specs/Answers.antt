@@ -4,7 +4,8 @@ use mathlib.Core.Bool.{Bool, true, false, cond}
 use mathlib.Core.List.{List, [], _∷_, _++_}
 use lib.IntN.{ℤ, pos}
 use Rattle.rules.specs.Data.{Pair, Read, Place}
-use Rattle.rules.specs.Data.{Moment, Numbered, Dated, Instants, Line, Angle, Precessed, FiveArguments, Nutated}
+use Rattle.rules.specs.Data.{Utc, Moment, Numbered, Dated, Instants, Clocked, Line}
+use Rattle.rules.specs.Data.{Angle, Precessed, FiveArguments, Nutated}
 use Rattle.rules.specs.Data.{Turned, Prepared, Placed, Observed, Listed, ListedStar}
 use Rattle.rules.specs.Data.{Weather, Weathered, Refusal}
 use Rattle.rules.specs.Refusals.{number, Answer, given, refused, otherForm}
@@ -23,6 +24,15 @@ datedAnswer (Dated.Refused r) = refused r 3
 unfoldable pub instantsAnswer : Instants → Answer
 instantsAnswer (Instants.At ut tt) = given (ut .0 ∷ tt .0 ∷ [])
 instantsAnswer (Instants.Refused r) = refused r 2
+
+-- year, month, day; hour, minute, second, ms
+abbrev pub utcNumbers : Utc → List ℤ
+utcNumbers u = u .date .year ∷ u .date .month ∷ u .date .day
+    ∷ u .time .hour ∷ u .time .minute ∷ u .time .second ∷ u .time .ms ∷ []
+
+unfoldable pub clockedAnswer : Clocked → Answer
+clockedAnswer (Clocked.At u) = given (utcNumbers u)
+clockedAnswer (Clocked.Refused r) = refused r 7
 
 -- year, month, day; hour, minute, second, ms; UT1−UTC
 unfoldable pub momentNumbers : Moment → List ℤ

@@ -14,6 +14,7 @@ ghost use Rattle.laws.specs.Instants.{RealTime, InstantParts};
 ghost use Rattle.laws.specs.OfNumbers.{timeOfParts, utcAt, instantsAt};
 
 mod added_seconds;
+pub mod days;
 
 // Whether there is no such time on a day.
 pub fn time_refused(day: i64, hour: i64, minute: i64, second: i64, ms: i64) -> bool

@@ -1,12 +1,13 @@
 //! The second program's answers, in the words of the exported functions that stand beside them.
 
-use second::dates::{Date, Moment};
+use second::dates::{Date, Moment, Tt};
 use second::place::{self, Place, Site, Star};
 use second::reading;
 use second::refusals;
 use second::star_list;
 use second::turning::{self, Direction};
 use second::units::Whole;
+use second::utc::{self, Utc};
 use second::weather::{self, Float, Reading, Weather};
 
 use crate::compare::words;
@@ -38,6 +39,13 @@ fn asked_of(given: [i64; 14]) -> (Moment, Site, Star) {
 
 fn moment_of([year, month, day, hour, minute, second, ms, ut1_minus_utc]: [Whole; 8]) -> Moment {
     Moment { date: Date { year, month, day }, hour, minute, second, ms, ut1_minus_utc }
+}
+
+pub fn utc([tt]: [i64; 1]) -> [i64; 5] {
+    let two = |low: Whole, high: Whole| Whole::from(both(low as i64, high as i64));
+    words(utc::utc(Tt(tt.into())).map(|Utc { date: Date { year, month, day }, hour, minute, second, ms }| {
+        vec![two(year, month), two(day, hour), two(minute, second), ms]
+    }))
 }
 
 /// The record with a reading; refused, the record as it came, but for its flags, which are 0 or 1.

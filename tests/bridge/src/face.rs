@@ -108,6 +108,12 @@ exported! {
     ) -> (refused, ra, declination, azimuth, altitude, has_ra_and_has_azimuth);
 }
 
+#[cfg(exported = "utc")]
+exported! {
+    /// The UTC date and time of a TT instant.
+    UTC = turbelicus_utc(tt: i64) -> (refused, year_and_month, day_and_hour, minute_and_second, ms);
+}
+
 #[cfg(exported = "weather")]
 exported! {
     /// The weather record with one more reading of the probe.

@@ -8,6 +8,7 @@
 
 pub mod beside;
 pub mod chance;
+pub mod clocks;
 pub mod compare;
 mod driver;
 pub mod entries;

@@ -2,6 +2,7 @@
 //! refusal, and every answer is the second program's. The bridge lends each room between guards.
 #![cfg(all(
     exported = "place",
+    exported = "utc",
     exported = "weather",
     exported = "turning",
     exported = "reading",
@@ -9,11 +10,12 @@
 ))]
 
 use bridge::beside::{angle, list_count, list_star, list_write, place, turn};
-use bridge::beside::{observed_altitude, observed_place, weather};
+use bridge::beside::{observed_altitude, observed_place, utc, weather};
 use bridge::chance::Chance;
+use bridge::clocks::{FIRST, LAST};
 use bridge::compare::{compare, compare_lent, compare_told};
 use bridge::face::{LIST_COUNT, LIST_STAR, LIST_WRITE, PLACE, READING, TURN};
-use bridge::face::{OBSERVED_ALTITUDE, OBSERVED_PLACE, WEATHER};
+use bridge::face::{OBSERVED_ALTITUDE, OBSERVED_PLACE, UTC, WEATHER};
 use bridge::files::{bytes_of, damage, file, star, STAR_RANGES};
 use bridge::floats::{any_float, one_nan, PRESSURES, SIGN, SIZES_OF_TEMPERATURE};
 use bridge::function::Call;
@@ -23,6 +25,7 @@ use second::units::{CIRCLE, HALF_CIRCLE, QUARTER};
 
 /// In all more than 1,000,000 calls.
 const PLACES: usize = 200_000;
+const CLOCKS: usize = 200_000;
 const WEATHERS: usize = 200_000;
 const OBSERVED_PLACES: usize = 100_000;
 const TURNS: usize = 300_000;
@@ -110,6 +113,13 @@ fn places() {
     let mut chance = Chance::new("fuzz, places");
     let calls = (0..PLACES).map(|_| mutated(&mut chance, ASKED));
     compare(&PLACE, "fuzz", calls, place);
+}
+
+#[test]
+fn clocks() {
+    let mut chance = Chance::new("fuzz, clocks");
+    let calls = (0..CLOCKS).map(|_| mutated(&mut chance, [((FIRST, LAST), Wide)]));
+    compare(&UTC, "fuzz", calls, utc);
 }
 
 /// A weather record; half of the temperatures are given the other sign.

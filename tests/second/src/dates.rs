@@ -93,6 +93,12 @@ pub fn date_of(day: Whole) -> Result<Date, Refusal> {
     Ok(Date { year, month, day: rest + 1 })
 }
 
+/// Every date of 1972 to 2099, in turn.
+pub fn dates() -> impl Iterator<Item = Date> {
+    let of_month = |year| move |(month, days)| (1..=days).map(move |day| Date { year, month, day });
+    (FIRST_YEAR..=LAST_YEAR).flat_map(move |year| (1..).zip(months(year)).flat_map(of_month(year)))
+}
+
 /// TAI−UTC is one second more from 1 July of each of these years,
 const JULY_STEPS: [Whole; 11] = [1972, 1981, 1982, 1983, 1985, 1992, 1993, 1994, 1997, 2012, 2015];
 /// and from 1 January of each of these.

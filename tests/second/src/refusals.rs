@@ -16,6 +16,7 @@ pub const ROOM: Refusal = 11;
 pub const INSTANT: Refusal = 12;
 pub const LENGTH: Refusal = 13;
 pub const READING: Refusal = 14;
+pub const STRETCH: Refusal = 20;
 
 /// Refused by this number, unless the condition holds.
 pub fn unless(condition: bool, refusal: Refusal) -> Result<(), Refusal> {

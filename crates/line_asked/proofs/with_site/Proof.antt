@@ -15,6 +15,7 @@ use Rattle.words.specs.Holds.{bits}
 use Rattle.rules.specs.declared.Site.{Site}
 use Rattle.rules.specs.Numerals.{unsigned, ofNumber, signed}
 use Rattle.laws.specs.Lines.{of-digits-le}
+use Rattle.numerals.specs.Digits.{Spellable, few-spellable}
 use Rattle.line_asked.specs.declared.Asked.{Asked}
 use Rattle.line_asked.specs.Asking.{wordLength, firstWord, afterWord, ofSite, siteIn, withSite}
 use Rattle.line_asked.specs.Words.{word-le, site-short, first-word-is, after-word-is}
@@ -34,9 +35,9 @@ module _ (w : tie.After-length-before) where
   inside : w .length-before .result ≤ length text
   inside = omega (arith, n-is, word-le text)
 
-digits-le : (bs : List ℕ) → ofNumber 12 bs ≡ true → length (unsigned bs) ≤ 12
+spellable : (bs : List ℕ) → ofNumber 12 bs ≡ true → Spellable (unsigned bs)
 unfolding ofNumber
-digits-le bs e = of-digits-le 12 (unsigned bs) e .1
+spellable bs e = few-spellable (unsigned bs) (of-digits-le 12 (unsigned bs) e .1)
 
 returns : tie.Need-returns
 unfolding withSite
@@ -103,7 +104,7 @@ slice-aggregate-signed c = let w = v (o (c .before .before)) in sym
 signed-requires : tie.Need-signed-requires
 signed-requires c κs =
     let a = o (c .before .before) in
-    digits-le _ (sym (a .of-number .ensures) ∙ not-false _ (c .before .before .before .before .if2 .left))
+    spellable _ (sym (a .of-number .ensures) ∙ not-false _ (c .before .before .before .before .if2 .left))
 
 sub-signed : tie.Need-sub-signed
 sub-signed c = search needs
@@ -117,7 +118,7 @@ part-signed-end c = search needs
 signed-requires-2 : tie.Need-signed-requires-2
 signed-requires-2 c κs =
     let b = c .before .before .before .before in
-    digits-le _ (sym (b .of-number2 .ensures) ∙ not-false _ (c .before .before .before .if3 .left))
+    spellable _ (sym (b .of-number2 .ensures) ∙ not-false _ (c .before .before .before .if3 .left))
 
 returns-4 : tie.Need-returns-4
 unfolding withSite ofSite siteIn

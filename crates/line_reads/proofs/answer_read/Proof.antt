@@ -27,8 +27,8 @@ returns c =
     let t = c .before .before .if1 .taken in
     rw t (
       c .answer-end .ensures .0,
-      c .answer-end .ensures .1 ∙ overlaid-is (lastAnswer (s .args .start)) (s .args .out .now)
-          (omega (arith, last-le (s .args .start), wide-at-end (c .before))),
+      c .answer-end .ensures .1 ∙ overlaid-is (lastAnswer (s .args .program) (s .args .start)) (s .args .out .now)
+          (omega (arith, last-le (s .args .program) (s .args .start), wide-at-end (c .before))),
     )
 
 at-most-requires : tie.Need-at-most-requires
@@ -79,13 +79,14 @@ answer-bytes-requires c κs = rw (bytes-are c) (omega (arith, few c, wide c))
 returns-2 : tie.Need-returns-2
 returns-2 c =
     let b = c .before in
+    let p = entry b .args .program in
     let start = entry b .args .start in
-    let e : answersOf start (bytes b) ≡ answersTo start (bytes b) = answers-of-some start (bytes b) (some b) in
+    let e : answersOf p start (bytes b) ≡ answersTo p start (bytes b) = answers-of-some p start (bytes b) (some b) in
     let n : startOfNext start (bytes b) ≡ startAfterAll start (bytes b) = next-of-some start (bytes b) (some b) in (
       rw (e, n) (rw (bytes-are b) at (c .answer-bytes .ensures .0)),
       rw e ((rw (bytes-are b) at (c .answer-bytes .ensures .1))
-          ∙ overlaid-is (answersTo start (bytes b)) (room b)
-          (omega (arith, answers-le start (bytes b), few b, wide b))),
+          ∙ overlaid-is (answersTo p start (bytes b)) (room b)
+          (omega (arith, answers-le p start (bytes b), few b, wide b))),
     )
 
 pub answer-read-spec : {M : Type 1} → statement M

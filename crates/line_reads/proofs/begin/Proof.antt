@@ -24,7 +24,11 @@ returns c =
     let p = c .before in
     let e = c .empty .ensures in
     let n = p .put-header .ensures .0 in
-    (cc, p .put-header .ensures .1 ∙ overlaid-is headerLine _ (omega (arith, wide (p .before), header-le)))
+    let program = p .before .before .args .program in (
+      cc,
+      p .put-header .ensures .1 ∙ overlaid-is (headerLine program) _
+          (omega (arith, wide (p .before), header-le program)),
+    )
 
 pub begin-spec : {M : Type 1} → statement M
 begin-spec = tie.close (tie.spec put-header-requires empty-requires returns)

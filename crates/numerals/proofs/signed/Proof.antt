@@ -12,7 +12,8 @@ use borrow.Author.Needs.{needs, sfits-of}
 use Rattle.integers.specs.Size.{abs-neg}
 use Rattle.words.specs.Holds.{Holds, bits, got, negate, negate-ok}
 use Rattle.rules.specs.Numerals.{negative, unsigned, spelled, signed}
-use Rattle.laws.specs.Lines.{negative-length, to-end, unsigned-is, most, most-le-12}
+use Rattle.laws.specs.Lines.{negative-length, to-end, unsigned-is, most}
+use Rattle.numerals.specs.Digits.{Spellable, all-le}
 use Rattle.numerals.proofs.signed.Statement.{statement}
 use Rattle.numerals.proofs.signed.Tie as tie
 
@@ -22,8 +23,8 @@ minus c b e = sym (c .negative .ensures) ∙ e
 long : (c : tie.Then1) → 1 ≤ length (c .before .before .before .args .s .now)
 long c = negative-length _ (minus (c .before) true (c .if1 .taken))
 
-unsigned-le : (c : tie.Start) → length (unsigned (c .args .s .now)) ≤ 12
-unsigned-le c = c .pre
+few : (c : tie.Start) → Spellable (unsigned (c .args .s .now))
+few c = c .pre
 
 module _ (c : tie.After-spelled) where
   abbrev bytes : List ℕ
@@ -36,17 +37,11 @@ module _ (c : tie.After-spelled) where
       (natAbs (c .spelled .result) ≤ most (length (unsigned bytes)))
   told = rw (to-end bytes 1, ← unsigned-is bytes true minus-sign) at (c .spelled .ensures)
 
-  size-le : spelled 0 (unsigned bytes) ≤ 2 ^ 45
-  size-le =
-      omega (
-        arith,
-        ap natAbs (told .0),
-        told .1,
-        most-le-12 (length (unsigned bytes)) (unsigned-le (c .before .before .before .before .before)),
-      )
-
-  size : Holds (bits (c .spelled .result)) (pos (spelled 0 (unsigned bytes))) (2 ^ 45)
-  size = got (told .0) size-le tt
+  size : Holds (bits (c .spelled .result)) (pos (spelled 0 (unsigned bytes))) (10 ^ 18)
+  size =
+      let h = all-le (unsigned bytes) (few (c .before .before .before .before .before))
+      (omega (arith, ap natAbs (told .0), told .1)) in
+      got (told .0) h tt
 
 returns : tie.Need-returns
 unfolding signed
@@ -82,7 +77,7 @@ spelled-requires c κs =
     let a = c .before in
     let s = a .before .before .before in
     rw (to-end (s .args .s .now) 1, ← unsigned-is (s .args .s .now) true (minus (a .before) true (a .if1 .taken)))
-    (unsigned-le s)
+    (few s)
 
 sub-result : tie.Need-sub-result
 sub-result c = negate-ok (size c) tt
@@ -90,7 +85,7 @@ sub-result c = negate-ok (size c) tt
 spelled-requires-2 : tie.Need-spelled-requires-2
 spelled-requires-2 c κs =
     let s = c .before .before .before in
-    rw (← unsigned-is (s .args .s .now) false (minus (c .before) false (c .if1 .left))) (unsigned-le s)
+    rw (← unsigned-is (s .args .s .now) false (minus (c .before) false (c .if1 .left))) (few s)
 
 pub signed-spec : {M : Type 1} → statement M
 signed-spec =

@@ -7,9 +7,10 @@ use native.Mathlib.Omega.{arith}
 use lib.IntN.{pos}
 use lib.ListN.{length, getD, drop}
 use borrow.Author.Needs.{needs}
-use Rattle.words.specs.Holds.{Holds, bits, _*ʷ_, nat, lit, got, add-ok, mul, mul-ok}
+use Rattle.words.specs.Holds.{Holds, bits, _*ʷ_, nat, lit, got, add-ok, mul-to, mul-to-ok}
 use Rattle.rules.specs.Numerals.{spelled}
-use Rattle.laws.specs.Lines.{spelled-step, spelled-end, most, most-suc, most-le-12}
+use Rattle.laws.specs.Lines.{spelled-step, spelled-end, most, most-suc}
+use Rattle.numerals.specs.Digits.{tens-le, all-le}
 use Rattle.numerals.proofs.spelled.Statement.{statement}
 use Rattle.numerals.proofs.spelled.Tie as tie
 
@@ -19,10 +20,14 @@ Inv-loop s n₀ i₀ n i = (i ≤ length s) × ((n ≤ most i) × (spelled n (dr
 abbrev μ-loop : tie.MeasureT-loop
 μ-loop s n₀ i₀ n i = length s - i
 
-so-far : (c : tie.In-loop Inv-loop μ-loop) → Holds (c .before .loop .n) (pos (c .before .loop .n)) (2 ^ 45)
-so-far c =
-    nat (c .before .loop .n)
-    (omega (arith, c .before .loop .inv .1 .0, most-le-12 (c .before .loop .i) (omega arith))) tt
+tens-so-far : (c : tie.In-loop Inv-loop μ-loop) → 10 * c .before .loop .n ≤ 10 ^ 18
+tens-so-far c =
+    let a = c .before in
+    let s = a .before .before in
+    tens-le (s .args .s .now) (s .pre) (a .loop .i) (a .loop .n) (omega arith) (a .loop .inv .1 .0) (a .loop .inv .1 .1)
+
+so-far : (c : tie.In-loop Inv-loop μ-loop) → Holds (c .before .loop .n) (pos (c .before .loop .n)) (10 ^ 18)
+so-far c = nat (c .before .loop .n) (omega (arith, tens-so-far c)) tt
 
 abbrev text : tie.After-value Inv-loop μ-loop → List ℕ
 text c = c .before .before .before .before .before .args .s .now
@@ -37,8 +42,8 @@ byte : (c : tie.After-value Inv-loop μ-loop) → Holds (bits (c .value .result)
 byte c = got (c .value .ensures) (omega (arith, byte-lt c)) tt
 
 tens : (c : tie.After-value Inv-loop μ-loop)
-    → Holds (10 *ʷ c .before .before .before .loop .n) (pos (10 * c .before .before .before .loop .n)) (10 * (2 ^ 45))
-tens c = mul (lit 10 tt) (so-far (c .before .before)) tt
+    → Holds (10 *ʷ c .before .before .before .loop .n) (pos (10 * c .before .before .before .loop .n)) (10 ^ 18)
+tens c = mul-to (lit 10 tt) (so-far (c .before .before)) (10 ^ 18) (tens-so-far (c .before .before)) tt
 
 loop-again : tie.Need-loop-again Inv-loop μ-loop
 loop-again c =
@@ -54,19 +59,21 @@ loop-again c =
 returns : tie.Need-returns Inv-loop μ-loop
 returns c =
     let a = c .before in
-    let s = a .before .before .args .s .now in
+    let p = a .before .before in
+    let s = p .args .s .now in
     let l : a .loop .i ≡ length s = omega arith in
-    let n-le : a .loop .n ≤ 2 ^ 45 = omega (arith, a .loop .inv .1 .0, most-le-12 (a .loop .i) (omega arith)) in
-    let n-is = nat (a .loop .n) {b = 2 ^ 45} n-le tt .value in (
-      n-is ∙ ap pos (sym (spelled-end s (a .loop .i) (a .loop .n) (omega arith)) ∙ a .loop .inv .1 .1),
-      rw (n-is, ← l) (a .loop .inv .1 .0),
-    )
+    let e : a .loop .n ≡ spelled 0 s =
+    sym (spelled-end s (a .loop .i) (a .loop .n) (omega arith)) ∙ a .loop .inv .1 .1 in
+    let h : a .loop .n ≤ most (length s) = rw (← l) (a .loop .inv .1 .0) in
+    let n-le : a .loop .n ≤ 10 ^ 18 = rw e (all-le s (p .pre) (rw (← e) h)) in
+    let n-is = nat (a .loop .n) {b = 10 ^ 18} n-le tt .value in
+    (n-is ∙ ap pos e, rw n-is h)
 
 loop-holds : tie.Need-loop-holds Inv-loop μ-loop
 loop-holds c = (omega arith, (omega arith, refl))
 
 mul-n : tie.Need-mul-n Inv-loop μ-loop
-mul-n c = mul-ok (lit 10 tt) (so-far c) tt
+mul-n c = mul-to-ok (lit 10 tt) (so-far c) (10 ^ 18) (tens-so-far c) tt
 
 shared-slice-read-value : tie.Need-shared-slice-read-value Inv-loop μ-loop
 shared-slice-read-value c = omega arith

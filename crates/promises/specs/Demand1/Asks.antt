@@ -9,6 +9,7 @@ use prog.Wp.{Heap}
 use ghost.Atoms.{Atoms}
 use contract.Monad.{Fun}
 use Rattle.promises.specs.Contracts.{AsksNothing}
+use Rattle.module.proofs.clocks.turbelicus_utc as turbelicus-utc
 use Rattle.module.proofs.places.turbelicus_place as turbelicus-place
 use Rattle.module.proofs.turns.turbelicus_turn as turbelicus-turn
 use Rattle.module.proofs.turns.turbelicus_reading as turbelicus-reading
@@ -21,6 +22,7 @@ use Rattle.module.proofs.lists.turbelicus_list_write as turbelicus-list-write
 use Rattle.calendar.proofs.day_of as day-of
 use Rattle.calendar.proofs.date_of as date-of
 use Rattle.instants.proofs.instants as instants
+use Rattle.utc.proofs.utc_of_tt as utc-of-tt
 use Rattle.precession.proofs.precession as precession
 use Rattle.precession.proofs.obliquity as obliquity
 use Rattle.arguments.proofs.arguments as arguments
@@ -44,6 +46,9 @@ use Rattle.night_list.proofs.night_list as night-list
 
 module _ {M : Type 1} (𝓤 : URA M) (H : Heap 𝓤) (A : Atoms 𝓤) (mem : Memory → SProp 𝓤) (run : Routine → Fun 𝓤) where
   -- ---- the module, for C
+
+  pub turbelicus-utc-asks-nothing : AsksNothing 𝓤 turbelicus-utc.ended (turbelicus-utc.clauses 𝓤 H A mem run)
+  turbelicus-utc-asks-nothing κs passed g = refl
 
   pub turbelicus-place-asks-nothing : AsksNothing 𝓤 turbelicus-place.ended (turbelicus-place.clauses 𝓤 H A mem run)
   turbelicus-place-asks-nothing κs passed g = refl
@@ -89,6 +94,9 @@ module _ {M : Type 1} (𝓤 : URA M) (H : Heap 𝓤) (A : Atoms 𝓤) (mem : Mem
 
   pub instants-asks-nothing : AsksNothing 𝓤 instants.ended (instants.clauses 𝓤 H A mem run)
   instants-asks-nothing κs passed g = refl
+
+  pub utc-of-tt-asks-nothing : AsksNothing 𝓤 utc-of-tt.ended (utc-of-tt.clauses 𝓤 H A mem run)
+  utc-of-tt-asks-nothing κs passed g = refl
 
   -- ---- angles at an instant
 

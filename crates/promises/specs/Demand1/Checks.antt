@@ -8,6 +8,7 @@ use lib.ListN.{length}
 use lib.IntN.{ℤ}
 use lib.Ieee.{Float}
 use Rattle.rules.specs.declared.Date.{Date}
+use Rattle.rules.specs.declared.Tt.{Tt}
 use Rattle.rules.specs.declared.Moment.{Moment}
 use Rattle.rules.specs.declared.Star.{Star}
 use Rattle.rules.specs.declared.Site.{Site}
@@ -20,6 +21,7 @@ use Rattle.rules.specs.Units.{same, +_}
 use Rattle.rules.specs.Checks.{Check, _if_}
 use Rattle.rules.specs.Calendar.{yearRefused, dayRefused, numberRefused, dayNumber}
 use Rattle.rules.specs.Dates.{timeRefused, ut1MinusUtcRefused}
+use Rattle.rules.specs.Utc.{stretchRefused}
 use Rattle.rules.specs.Polynomials.{instantRefused}
 use Rattle.rules.specs.Length.{lengthRefused}
 use Rattle.rules.specs.Turning.{directionRefused, turnRefused}
@@ -49,6 +51,10 @@ dateChecks m = dayChecks (m .date) ++ (
     Refusal.Time if timeRefused (dayNumber (m .date)) (m .time)
     ∷ Refusal.Ut1MinusUtc if ut1MinusUtcRefused m
     ∷ [])
+
+-- UTC of a TT 20
+abbrev pub stretchChecks : Tt → List Check
+stretchChecks t = Refusal.Stretch if stretchRefused t ∷ []
 
 -- an angle at an instant 12
 abbrev pub instantChecks : ℤ → List Check

@@ -7,6 +7,7 @@ use prog.Wp.{Heap}
 use ghost.Atoms.{Atoms}
 use contract.Monad.{Fun}
 use Rattle.promises.specs.Contracts.{OneAnswer, one}
+use Rattle.answers.proofs.clocks.clocked_out as clocked-out
 use Rattle.answers.proofs.lists.counted_out as counted-out
 use Rattle.answers.proofs.lists.starred_out as starred-out
 use Rattle.answers.proofs.lists.written_out as written-out
@@ -19,6 +20,9 @@ use Rattle.answers.proofs.turns.turned_out as turned-out
 use Rattle.answers.proofs.turns.read_out as read-out
 
 module _ {M : Type 1} (𝓤 : URA M) (H : Heap 𝓤) (A : Atoms 𝓤) (mem : Memory → SProp 𝓤) (run : Routine → Fun 𝓤) where
+  pub clocked-out-one : OneAnswer 𝓤 clocked-out.ended (clocked-out.clauses 𝓤 H A mem run)
+  clocked-out-one κs passed g r s x y = one 𝓤 r s _
+
   pub counted-out-one : OneAnswer 𝓤 counted-out.ended (counted-out.clauses 𝓤 H A mem run)
   counted-out-one κs passed g r s x y = one 𝓤 r s _
 

@@ -13,9 +13,9 @@ use Rattle.line_reads.proofs.answer_read as answer-read
 
 module _ {M : Type 1} (𝓤 : URA M) (H : Heap 𝓤) (A : Atoms 𝓤) (mem : Memory → SProp 𝓤) (run : Routine → Fun 𝓤) where
   pub begin-one : OneAnswerAndContent 𝓤 begin.ended (begin.clauses 𝓤 H A mem run)
-      (λ κs x. now (x .0))
+      (λ κs x. now (x .1 .0))
   begin-one κs passed g r s x y = one-each 𝓤 r s _ _ _ _
 
   pub answer-read-one : OneAnswerAndContent 𝓤 answer-read.ended (answer-read.clauses 𝓤 H A mem run)
-      (λ κs x. now (x .1 .1 .1 .0))
+      (λ κs x. now (x .1 .1 .1 .1 .0))
   answer-read-one κs passed g r s x y = one-each 𝓤 r s _ _ _ _

@@ -8,6 +8,7 @@ use ghost.Atoms.{Atoms}
 use contract.Monad.{Fun}
 use denote.Ref.{now}
 use Rattle.promises.specs.Contracts.{OneAnswer, OneAnswerAndContent, one, one-both}
+use Rattle.module.proofs.clocks.turbelicus_utc as turbelicus-utc
 use Rattle.module.proofs.lists.turbelicus_list_count as turbelicus-list-count
 use Rattle.module.proofs.lists.turbelicus_list_star as turbelicus-list-star
 use Rattle.module.proofs.lists.turbelicus_list_write as turbelicus-list-write
@@ -19,6 +20,9 @@ use Rattle.module.proofs.turns.turbelicus_turn as turbelicus-turn
 use Rattle.module.proofs.turns.turbelicus_reading as turbelicus-reading
 
 module _ {M : Type 1} (𝓤 : URA M) (H : Heap 𝓤) (A : Atoms 𝓤) (mem : Memory → SProp 𝓤) (run : Routine → Fun 𝓤) where
+  pub turbelicus-utc-one : OneAnswer 𝓤 turbelicus-utc.ended (turbelicus-utc.clauses 𝓤 H A mem run)
+  turbelicus-utc-one κs passed g r s x y = one 𝓤 r s _
+
   pub turbelicus-list-count-one : OneAnswer 𝓤 turbelicus-list-count.ended (turbelicus-list-count.clauses 𝓤 H A mem run)
   turbelicus-list-count-one κs passed g r s x y = one 𝓤 r s _
 

@@ -49,6 +49,9 @@ enum-told-13 c = search needs
 enum-told-14 : tie.Need-enum-told-14
 enum-told-14 c = search needs
 
+enum-told-15 : tie.Need-enum-told-15
+enum-told-15 c = search needs
+
 numbered : {r s : Refusal} → r ≡ s → pos (number s) ≡ pos (number r)
 numbered e = sym (ap (λ r. pos (number r)) e)
 
@@ -108,6 +111,10 @@ returns-14 : tie.Need-returns-14
 unfolding number
 returns-14 c = numbered (c .enum-told14 .given .1)
 
+returns-15 : tie.Need-returns-15
+unfolding number
+returns-15 c = numbered (c .enum-told15 .given .1)
+
 pub number-spec : {M : Type 1} → statement M
 number-spec =
     tie.close
@@ -126,6 +133,7 @@ number-spec =
     enum-told-12
     enum-told-13
     enum-told-14
+    enum-told-15
     returns
     returns-2
     returns-3
@@ -139,4 +147,5 @@ number-spec =
     returns-11
     returns-12
     returns-13
-    returns-14)
+    returns-14
+    returns-15)

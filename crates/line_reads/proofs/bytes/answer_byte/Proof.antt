@@ -27,11 +27,11 @@ put-answer-requires c κs = search needs
 empty-requires : tie.Need-empty-requires
 empty-requires c κs = search needs
 
-add-t10 : tie.Need-add-t10
-add-t10 c =
+add-t11 : tie.Need-add-t11
+add-t11 c =
     let p = c .before .before .before in
     let s = p .before .before .before .before in
-    omega (arith, p .put-answer .ensures .0, answered-le (s .args .start), s .pre, s .good)
+    omega (arith, p .put-answer .ensures .0, answered-le (s .args .program) (s .args .start), s .pre, s .good)
 
 same-length : tie.Need-same-length
 same-length c = search needs
@@ -48,7 +48,7 @@ returns c =
     let n = p .put-answer .ensures .0 in (
       simp t (cc),
       simp t (ap (λ l. take at room ++ (l ++ drop (length room - at) (drop at room))) (p .put-answer .ensures .1)
-          ∙ part-put at room (answered (s .args .start))),
+          ∙ part-put at room (answered (s .args .program) (s .args .start))),
     )
 
 with-byte-requires : tie.Need-with-byte-requires
@@ -72,7 +72,7 @@ answer-byte-spec =
     part-put-answer-end
     put-answer-requires
     empty-requires
-    add-t10
+    add-t11
     same-length
     returns
     with-byte-requires

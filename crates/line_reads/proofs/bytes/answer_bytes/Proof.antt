@@ -7,13 +7,13 @@ use Rattle.line_reads.proofs.bytes.answer_bytes.Statement.{statement}
 use Rattle.line_reads.proofs.bytes.answer_bytes.Tie as tie
 
 abbrev Inv-loop : tie.InvT-loop
-Inv-loop input out₀ line₀ at₀ i₀ out line at i = After line₀ input out₀ line out at i
+Inv-loop p input out₀ line₀ at₀ i₀ out line at i = After p line₀ input out₀ line out at i
 
 abbrev μ-loop : tie.MeasureT-loop
-μ-loop input out₀ line₀ at₀ i₀ out line at i = length input - i
+μ-loop p input out₀ line₀ at₀ i₀ out line at i = length input - i
 
 loop-holds : tie.Need-loop-holds Inv-loop μ-loop
-loop-holds c = after-none _ _ _
+loop-holds c = after-none _ _ _ _
 
 shared-slice-read-answer-byte : tie.Need-shared-slice-read-answer-byte Inv-loop μ-loop
 shared-slice-read-answer-byte c = omega arith
@@ -36,8 +36,8 @@ loop-again c =
     let l = p .before .before .before .before in
     let s = l .before .before .before in
     let e = p .answer-byte .ensures in
-    let m = after-more (s .args .start) (s .args .input .now) (s .args .out .now) (l .loop .line) (l .loop .out)
-    (l .loop .at) (l .loop .i) (p .before .before .before .loop-test .taken) (l .loop .inv) in
+    let m = after-more (s .args .program) (s .args .start) (s .args .input .now) (s .args .out .now) (l .loop .line)
+    (l .loop .out) (l .loop .at) (l .loop .i) (p .before .before .before .loop-test .taken) (l .loop .inv) in
     rw (e .0, e .1) m
 
 same-length : tie.Need-same-length Inv-loop μ-loop
@@ -47,8 +47,8 @@ returns : tie.Need-returns Inv-loop μ-loop
 returns c =
     let l = c .before in
     let s = l .before .before .before in
-    let a = after-all (s .args .start) (s .args .input .now) (s .args .out .now) (l .loop .line) (l .loop .out)
-    (l .loop .at) (l .loop .i) (c .loop-test .left) (l .loop .inv) in
+    let a = after-all (s .args .program) (s .args .start) (s .args .input .now) (s .args .out .now) (l .loop .line)
+    (l .loop .out) (l .loop .at) (l .loop .i) (c .loop-test .left) (l .loop .inv) in
     let p = a .0 in
     let q = a .1 .0 in
     (cc, a .1 .1)

@@ -6,14 +6,10 @@ use native.Mathlib.Omega.{arith}
 use lib.ListN.{length, take, set, length-append}
 use lib.Seq.{length-take-le, sets, length-sets}
 use borrow.Author.Needs.{needs}
-use borrow.Author.Tests.{le-ltb}
-use Rattle.rules.specs.Lines.{lineOf}
-use Rattle.rules.specs.Times.{printed, newline, overlaid}
-use Rattle.laws.specs.PuttingBytes.{overlaid-is}
+use Rattle.rules.specs.Times.{newline}
 use Rattle.laws.specs.LinesWithEnds.{ended-one, line-put}
-use Rattle.laws.specs.Times.{printed-le}
-use Rattle.line_times.specs.Printed.{printedIn}
-use Rattle.line_reads.specs.Reads.{held, answered}
+use Rattle.line_reads.specs.Reads.{answeredBy, held, answered}
+use Rattle.line_reads.specs.Lengths.{answer-le}
 use Rattle.line_reads.specs.Rooms.{take-min}
 use Rattle.line_reads.proofs.starts.put_answer.Statement.{statement}
 use Rattle.line_reads.proofs.starts.put_answer.Tie as tie
@@ -34,16 +30,16 @@ held-is c =
 array-share-prefix-bytes : tie.Need-array-share-prefix-bytes
 array-share-prefix-bytes c = omega (arith, c .at-most .ensures, size (c .before .before .before))
 
-slice-aggregate-print-line : tie.Need-slice-aggregate-print-line
-slice-aggregate-print-line c =
+slice-aggregate-print-answer : tie.Need-slice-aggregate-print-answer
+slice-aggregate-print-answer c =
     let b = c .before in
     sym (length-take-le (b .at-most .result) (b .before .before .before .args .start .bytes)
     (omega (arith, b .at-most .ensures, size (b .before .before .before))))
 
-print-line-requires : tie.Need-print-line-requires
-print-line-requires c κs = search needs
+print-answer-requires : tie.Need-print-answer-requires
+print-answer-requires c κs = search needs
 
-module _ (c : tie.After-print-line) where
+module _ (c : tie.After-print-answer) where
   abbrev entry : tie.Start
   entry = c .before .before .before .before .before .before
 
@@ -51,30 +47,26 @@ module _ (c : tie.After-print-line) where
   room = entry .args .out .now
 
   abbrev answer : List ℕ
-  answer = printed (lineOf (held (entry .args .start)))
+  answer = answeredBy (entry .args .program) (held (entry .args .start))
 
   wide : 64 ≤ length room
   wide = entry .pre
 
-  in-room : (line : List ℕ) → printedIn room line ≡ printed (lineOf line)
-  unfolding printedIn
-  in-room line = rw (le-ltb (length room) 64 wide)
+  answer-is : answeredBy (entry .args .program)
+      (take (c .before .before .before .at-most .result) (entry .args .start .bytes))
+      ≡ answer
+  answer-is = ap (answeredBy (entry .args .program)) (held-is (c .before .before .before))
 
-  answer-is : printedIn room (take (c .before .before .before .at-most .result) (entry .args .start .bytes)) ≡ answer
-  answer-is = in-room _ ∙ ap (λ line. printed (lineOf line)) (held-is (c .before .before .before))
+  end-is : c .print-answer .result ≡ length answer
+  end-is = c .print-answer .ensures .0 ∙ ap length answer-is
 
-  end-is : c .print-line .result ≡ length answer
-  end-is = c .print-line .ensures .0 ∙ ap length answer-is
+  short : c .print-answer .result ≤ 62
+  short = omega (arith, end-is, answer-le (entry .args .program) (held (entry .args .start)))
 
-  short : c .print-line .result ≤ 62
-  short = omega (arith, end-is, printed-le (lineOf (held (entry .args .start))))
+  room-is : c .print-answer .last .1 .1 .0 ≡ sets room 0 answer
+  room-is = c .print-answer .ensures .1 ∙ ap (sets room 0) answer-is
 
-  room-is : c .print-line .last .1 .0 ≡ sets room 0 answer
-  room-is =
-      c .print-line .ensures .1 ∙ ap (λ bytes. overlaid bytes room) answer-is
-      ∙ sym (overlaid-is answer room (omega (arith, wide, end-is, short)))
-
-  long : length (c .print-line .last .1 .0) ≡ length room
+  long : length (c .print-answer .last .1 .1 .0) ≡ length room
   long = ap length room-is ∙ length-sets room 0 answer
 
 slice-write-out : tie.Need-slice-write-out
@@ -91,8 +83,8 @@ unfolding answered
 returns c =
     let p = c .before .before in (
       simp length-append (omega (arith, end-is p)),
-      ap (λ l. set l (p .print-line .result) newline) (room-is p)
-          ∙ line-put (room p) (answer p) 0 (p .print-line .result) (omega (arith, end-is p))
+      ap (λ l. set l (p .print-answer .result) newline) (room-is p)
+          ∙ line-put (room p) (answer p) 0 (p .print-answer .result) (omega (arith, end-is p))
           ∙ ap (sets (room p) 0) (ended-one (answer p)),
     )
 
@@ -102,8 +94,8 @@ put-answer-spec =
     (tie.spec
     at-most-requires
     array-share-prefix-bytes
-    slice-aggregate-print-line
-    print-line-requires
+    slice-aggregate-print-answer
+    print-answer-requires
     slice-write-out
     add-result
     same-length

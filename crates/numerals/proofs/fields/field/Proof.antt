@@ -13,6 +13,7 @@ use Rattle.words.specs.Holds.{bits}
 use Rattle.words.specs.Fits.{fits32}
 use Rattle.rules.specs.Numerals.{field}
 use Rattle.laws.specs.Lines.{most, most-le}
+use Rattle.numerals.specs.Digits.{few-spellable}
 use Rattle.numerals.proofs.fields.field.Statement.{statement}
 use Rattle.numerals.proofs.fields.field.Tie as tie
 
@@ -29,7 +30,7 @@ part-spelled-end : tie.Need-part-spelled-end
 part-spelled-end c = search needs
 
 spelled-requires : tie.Need-spelled-requires
-spelled-requires c κs = search needs
+spelled-requires c κs = few-spellable _ (search needs)
 
 less : (from count : ℕ) → (from + count) - from ≡ count
 less from count = omega arith

@@ -12,6 +12,7 @@ use Rattle.words.specs.Holds.{bits}
 use Rattle.words.specs.Fits.{fits32}
 use Rattle.rules.specs.Numerals.{unsigned, ofNumber}
 use Rattle.laws.specs.Lines.{of-digits-le, most-le}
+use Rattle.numerals.specs.Digits.{few-spellable}
 use Rattle.numerals.proofs.fields.ut1_minus_utc.Statement.{statement}
 use Rattle.numerals.proofs.fields.ut1_minus_utc.Tie as tie
 
@@ -20,7 +21,7 @@ unfolding ofNumber
 digits-le c = of-digits-le 4 (unsigned (c .args .s .now)) (c .pre) .1
 
 signed-requires : tie.Need-signed-requires
-signed-requires c κs = omega (arith, digits-le (c .before))
+signed-requires c κs = few-spellable _ (omega (arith, digits-le (c .before)))
 
 module _ (c : tie.After-signed) where
   abbrev r : ℤ

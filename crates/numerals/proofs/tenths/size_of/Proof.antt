@@ -12,6 +12,7 @@ use Rattle.words.specs.Tests.{not-taken, not-left}
 use Rattle.words.specs.Holds.{Holds, bits, _*ʷ_, lit, got, add, add-ok, mul, mul-ok}
 use Rattle.rules.specs.Numerals.{nought, spelled}
 use Rattle.laws.specs.Lines.{most-le}
+use Rattle.numerals.specs.Digits.{few-spellable}
 use Rattle.numerals.specs.Tenths.{hasPoint, beforePoint, afterPoint, sizeOf}
 use Rattle.numerals.specs.TenthsParts.{point-long, before-is, after-at, size-of-whole, of-size-le}
 use Rattle.numerals.proofs.tenths.size_of.Statement.{statement}
@@ -46,7 +47,7 @@ whole-le c =
     omega (arith, before-le s, ap length (before-is (s .args .s .now) false (whole c)))
 
 spelled-requires : tie.Need-spelled-requires
-spelled-requires c κs = omega (arith, whole-le c)
+spelled-requires c κs = few-spellable _ (omega (arith, whole-le c))
 
 number : (c : tie.After-spelled)
     → Holds (bits (c .spelled .result)) (pos (spelled 0 (c .before .before .before .before .args .s .now))) 300000
@@ -83,7 +84,7 @@ slice-aggregate-spelled c =
     sym (length-take-le _ s (omega (arith, long (c .before))))
 
 spelled-requires-2 : tie.Need-spelled-requires-2
-spelled-requires-2 c κs = omega (arith, front-le (c .before))
+spelled-requires-2 c κs = few-spellable _ (omega (arith, front-le (c .before)))
 
 module _ (c : tie.After-spelled2) where
   abbrev bytes : List ℕ
