@@ -1,5 +1,6 @@
-# What the scripts of `times` and `dates` have in common, read by each: it sets `name` to that of its program first, and
-# `line` to a line of its input.
+# What the scripts of `times` and `dates` have in common, read by each: it sets `name` to that of its program first,
+# `line` to a line of its input and `answer` to what that is answered by, and writes to $work/header what the program
+# prints before any answer, which may be nothing.
 
 top=$(cd "$here/../.." && pwd -P)
 program=$top/target/bin/$name
@@ -36,6 +37,28 @@ said() { # said NAME BEGINNING: one line was said, which begins so, and nothing 
 }
 
 lines() { yes "$1" | head -n "$2"; } # lines TEXT COUNT
+
+cut_at() { # cut_at SIZE COUNT [LAST]: so many bytes of $work/lines are answered so many times, and the last line so
+    head -c "$1" "$work/lines" >"$work/in"
+    run <"$work/in" >"$work/out"
+    { cat "$work/header"; lines "$answer" "$2"; [ $# -eq 2 ] || echo "$3"; } >"$work/expected"
+    same "$1 bytes" "$work/expected"
+}
+
+# A caller may wait for the header before it writes a line, and for the answer before it writes another.
+in_turn() {
+    mkfifo "$work/fifo"
+    : >"$work/out"
+    run <"$work/fifo" >"$work/out" &
+    exec 3>"$work/fifo"
+    [ ! -s "$work/header" ] || soon "the header before the first line" "$work/header"
+    echo "$line" >&3
+    { cat "$work/header"; echo "$answer"; } >"$work/expected"
+    soon "the answer before the next line" "$work/expected"
+    exec 3>&-
+    wait
+    same "and nothing more at the end" "$work/expected"
+}
 
 # What cannot be read or written gets one line on standard error.
 failures() {

@@ -23,9 +23,9 @@ answers() { # answers NAME INPUT EXPECTED: the one is answered by the other; in 
 run <"$stored/stdin" >"$work/out"
 same "the stored input" "$stored/stdout"
 
-: >"$work/nothing"
 run </dev/null >"$work/out"
-same "empty input" "$work/nothing"
+: >"$work/header"
+same "empty input" "$work/header"
 
 j2000='2000-01-01 11:58:55.816'
 answers "no line end at the end" '0\n536500869183' "$j2000\n2016-12-31 23:59:60.999\n"
@@ -65,33 +65,13 @@ same "a line in three parts, and one without its end" "$work/expected"
 
 # 78 lines of 13 bytes, and of the next none of its bytes, 9, 10 or 11 of them, all but its end, or all
 lines "$line" 79 >"$work/lines"
-for size in 1014 1023 1024 1025 1026 1027; do
-    head -c $size "$work/lines" >"$work/in"
-    run <"$work/in" >"$work/out"
-    {
-        lines "$answer" 78
-        case $size in
-        1014) ;;
-        1023) echo '2000-01-07 17:00:36.684' ;;
-        1024) echo '2000-03-03 14:15:44.497' ;;
-        1025) echo '2001-09-13 10:47:02.634' ;;
-        *) echo "$answer" ;;
-        esac
-    } >"$work/expected"
-    same "$size bytes" "$work/expected"
-done
+cut_at 1014 78
+cut_at 1023 78 '2000-01-07 17:00:36.684'
+cut_at 1024 78 '2000-03-03 14:15:44.497'
+cut_at 1025 78 '2001-09-13 10:47:02.634'
+for size in 1026 1027; do cut_at $size 79; done
 
-# a caller may wait for the answer before it writes another line
-mkfifo "$work/fifo"
-: >"$work/out"
-run <"$work/fifo" >"$work/out" &
-exec 3>"$work/fifo"
-echo "$line" >&3
-echo "$answer" >"$work/expected"
-soon "the answer before the next line" "$work/expected"
-exec 3>&-
-wait
-same "and nothing more at the end" "$work/expected"
+in_turn
 
 # ---- what cannot be read or written
 

@@ -42,29 +42,11 @@ same "a line in three parts, and one without its end" "$work/expected"
 
 # 39 lines of 26 bytes, 10 bytes of the next, or all of it but its end
 lines "$line" 40 >"$work/lines"
-for size in 1014 1023 1024 1025 1039 1040; do
-    head -c $size "$work/lines" >"$work/in"
-    run <"$work/in" >"$work/out"
-    {
-        cat "$work/header"
-        lines "$answer" 39
-        case $size in 1014) ;; 1039 | 1040) echo "$answer" ;; *) echo 'refused 0' ;; esac
-    } >"$work/expected"
-    same "$size bytes" "$work/expected"
-done
+cut_at 1014 39
+for size in 1023 1024 1025; do cut_at $size 39 'refused 0'; done
+for size in 1039 1040; do cut_at $size 40; done
 
-# a caller may wait for the header before it writes a line, and for the answer before it writes another
-mkfifo "$work/fifo"
-: >"$work/out"
-run <"$work/fifo" >"$work/out" &
-exec 3>"$work/fifo"
-soon "the header before the first line" "$work/header"
-echo "$line" >&3
-printf 'day ut tt\n%s\n' "$answer" >"$work/expected"
-soon "the answer before the next line" "$work/expected"
-exec 3>&-
-wait
-same "and nothing more at the end" "$work/expected"
+in_turn
 
 # ---- what cannot be read or written
 
