@@ -2,7 +2,7 @@
 -- "Ranges of a reading").
 use Rattle.std.specs.Prelude.{◌≡◌, refl, Bool, true, false, cond, ℕ, zero, suc, ◌+◌, ◌*◌, ◌-◌, ◌≤◌, ◌<◌, ◌^◌, ℤ, pos, negsuc, nat_abs, ◌-ℤ◌}
 use Rattle.std.proofs.Common.{sym, ap, ◌∙◌, arith, lt-ltb, le-ltb}
-use Rattle.std.proofs.Math.IntN.{-ℤ-+ℤ_cancel}
+use Rattle.std.proofs.Math.IntN as numbers
 use Rattle.std.specs.Int.Signed.{lt_z}
 use Rattle.integers.specs.Difference.{pos_sub, sub_is}
 use Rattle.integers.specs.Size.{abs_is, parts_apart}
@@ -75,7 +75,7 @@ unfolding as_height
 as_height_pair a = by (lt_z (pos half) a)
   where
     by : (t : Bool) → pair (cond t (a -ℤ pos circle) a) ≡ pair a
-    by true = sym (pair_circle (a -ℤ pos circle)) ∙ ap pair (-ℤ-+ℤ_cancel a (pos circle))
+    by true = sym (pair_circle (a -ℤ pos circle)) ∙ ap pair (numbers.-ℤ-+ℤ_cancel a (pos circle))
     by false = refl
 
 -- ---- an accepted direction gives two numbers of 32 bits

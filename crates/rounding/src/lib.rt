@@ -1,3 +1,5 @@
+#![tactic(auto)]
+
 // Rnd of a quotient, document 01's one rounding. No sum or product on the way passes an i64.
 
 ghost use Rattle.std.specs.Prelude.{◌≡◌, ◌≤◌, ◌<◌, ◌^◌, ℤ, pos, nat_abs, ◌*ℤ◌, ◌<ℤ◌};

@@ -1,3 +1,5 @@
+#![tactic(auto)]
+
 // Ranges, sizes and remainders of whole numbers, which every rule of document 01 rests on.
 
 ghost use Rattle.std.specs.Prelude.{◌≡◌, ◌≤◌, ◌^◌, ℤ, pos, nat_abs, ◌<ℤ◌};

@@ -31,10 +31,10 @@ size64_lt (negsuc n) h k = absurd k.le
 
 -- a number that fits is read back as it was stored; a call's result is known to fit by its `ok`
 pub held64 : (z : ℤ) → mag z < 2 ^ 63 → to_z w64 (of_z w64 z) ≡ z
-held64 z l = to_z-of_z (sfits_of l)
+held64 z l = to_z-of_z {w = w64} (sfits_of {w = w64} {z = z} l)
 
 pub held32 : (z : ℤ) → mag z < 2 ^ 31 → to_z w32 (of_z w32 z) ≡ z
-held32 z l = to_z-of_z (sfits_of l)
+held32 z l = to_z-of_z {w = w32} (sfits_of {w = w32} {z = z} l)
 
 pub widened_fits : (x : ℤ) → SFits w32 x → SFits w64 x
 widened_fits x h = sfits_widen tt h

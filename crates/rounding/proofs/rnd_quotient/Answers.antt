@@ -10,57 +10,53 @@ use mir.ValLaws.{sfits_le}
 use Rattle.integers.specs.Quotient.{rem_lt, size_pos}
 use Rattle.words.specs.Fits.{held64, quot_fits, rem_fits, quot_ok}
 use Rattle.laws.specs.Rounding.{rnd_by_quotients, mag_rnd}
-use Rattle.rounding.proofs.rnd_quotient.Statement.{statement}
-use Rattle.rounding.proofs.rnd_quotient.Tie as tie
+use Rattle.rounding.proofs.rnd_quotient.Goals as goal
 
 -- ---- what the words hold
 
-a_held : (c : tie.Start) → to_z w64 (of_z w64 c.args.a) ≡ c.args.a
+a_held : (c : goal.Start) → to_z w64 (of_z w64 c.args.a) ≡ c.args.a
 a_held c = to_z-of_z c.ranges.a
 
-b_held : (c : tie.Start) → to_z w64 (of_z w64 c.args.b) ≡ c.args.b
+b_held : (c : goal.Start) → to_z w64 (of_z w64 c.args.b) ≡ c.args.b
 b_held c = to_z-of_z c.ranges.b
 
-quotient_held : (c : tie.Start) → to_z w64 (of_z w64 (quot_z c.args.a c.args.b)) ≡ quot_z c.args.a c.args.b
+quotient_held : (c : goal.Start) → to_z w64 (of_z w64 (quot_z c.args.a c.args.b)) ≡ quot_z c.args.a c.args.b
 quotient_held c = to_z-of_z (quot_fits c.args.a c.args.b c.ranges.a c.requires.0)
 
-rest_held : (c : tie.Start) → to_z w64 (of_z w64 (rem_z c.args.a c.args.b)) ≡ rem_z c.args.a c.args.b
+rest_held : (c : goal.Start) → to_z w64 (of_z w64 (rem_z c.args.a c.args.b)) ≡ rem_z c.args.a c.args.b
 rest_held c = to_z-of_z (rem_fits c.args.a c.args.b c.ranges.a)
 
 ruleset held = (a_held, b_held, quotient_held, rest_held)
 
-step_is : (c : tie.After-one-away)
+step_is : (c : goal.After-one_away)
     → to_z w64 (of_z w64 c.one-away.result)
     ≡ quot_z (pos 2 *ℤ rem_z c.before.args.a c.before.args.b) c.before.args.b
 step_is c = held64 c.one-away.result c.one-away.type-inv ∙ simp held at c.one-away.ensures
 
 -- ---- the needs
 
-div_result : tie.Need-nonzero-div-result
-div_result c = quot_ok c.args.a c.args.b c.ranges.a c.ranges.b c.requires.0
+pub nonzero_div-result : goal.nonzero_div-result
+nonzero_div-result c = quot_ok c.args.a c.args.b c.ranges.a c.ranges.b c.requires.0
 
-rem_one_away : tie.Need-nonzero-rem-one-away
-rem_one_away c = div_result c
+rem_one_away : goal.??nonzero-rem-one-away
+rem_one_away c = nonzero_div-result c
 
-one_away_requires : tie.Need-one-away-requires
-one_away_requires c κs =
+pub one_away-requires : goal.one_away-requires
+one_away-requires c =
     let lt = rem_lt c.args.a c.args.b (size_pos c.args.b c.requires.0) in
     simp held (c.requires.0, (c.requires.1, omega (arith, c.requires.1)))
 
-sum_fits : (c : tie.Start)
+sum_fits : (c : goal.Start)
     → SFits w64 (quot_z c.args.a c.args.b +ℤ quot_z (pos 2 *ℤ rem_z c.args.a c.args.b) c.args.b)
 sum_fits c =
     let b = c.args.b in
     rw (rnd_by_quotients c.args.a b c.requires.0)
     (sfits_le (mag_rnd c.args.a (nat_abs b) (size_pos b c.requires.0)) c.ranges.a)
 
-add_result : tie.Need-overflow-add-result
-add_result c = simp (held, step_is c) (sum_fits c.before)
+pub overflow_add-result : goal.overflow_add-result
+overflow_add-result c = simp (held, step_is c) (sum_fits c.before)
 
-returns : tie.Need-returns
+pub returns : goal.returns
 returns c =
     simp (held, step_is c, to_z-of_z (sum_fits c.before))
     (rnd_by_quotients c.before.args.a c.before.args.b c.before.requires.0)
-
-pub rnd_quotient_spec : {M : Type 1} → statement M
-rnd_quotient_spec = tie.close (tie.spec div_result rem_one_away one_away_requires add_result returns)

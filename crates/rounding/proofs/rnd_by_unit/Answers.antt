@@ -18,8 +18,7 @@ use Rattle.rules.specs.Units.{unit}
 use Rattle.rules.specs.Rounding.{rnd, rnd_size}
 use Rattle.rounding.specs.Given.{most_dividend}
 use Rattle.rounding.proofs.Half.{rnd_size_by_half}
-use Rattle.rounding.proofs.rnd_by_unit.Statement.{statement}
-use Rattle.rounding.proofs.rnd_by_unit.Tie as tie
+use Rattle.rounding.proofs.rnd_by_unit.Goals as goal
 
 abbrev half : ℕ
 half = 536870912
@@ -67,30 +66,27 @@ shifted : {n : ℕ} {z : ℤ} {b : ℕ} (m : ℕ) → Holds n z b → T (ltb b (
 shifted {n} {z} {b} m h t =
     rw h.value (to_z-of_z (sfits_le (mag_shr z m) (fits64 z (omega (arith, h.size, ltb→lt b (2 ^ 63) t)))))
 
-a_holds : (c : tie.Start) → Holds (bits c.args.a) c.args.a most_dividend
+a_holds : (c : goal.Start) → Holds (bits c.args.a) c.args.a most_dividend
 a_holds c = arg c.args.a c.requires tt
 
 sign_le : (a : ℤ) → nat_abs (sign a) ≤ 1
 sign_le (pos n) = omega arith
 sign_le (negsuc n) = omega arith
 
-sign_holds : (c : tie.Start) → Holds (bits (shr_z (to_z w64 (bits c.args.a)) (2 ^ 63))) (sign c.args.a) 1
+sign_holds : (c : goal.Start) → Holds (bits (shr_z (to_z w64 (bits c.args.a)) (2 ^ 63))) (sign c.args.a) 1
 sign_holds c = record {
   value = shifted (2 ^ 63) (a_holds c) tt ∙ sign_is c.args.a c.requires;
   size = sign_le c.args.a;
 }
 
-add_result : tie.Need-overflow-add-result
-add_result c = add_ok (a_holds c) (lit half tt) tt
+pub overflow_add-result : goal.overflow_add-result
+overflow_add-result c = add_ok (a_holds c) (lit half tt) tt
 
-half_holds : (c : tie.Start) → Holds (bits c.args.a +ʷ half) (c.args.a +ℤ pos half) (most_dividend + half)
+half_holds : (c : goal.Start) → Holds (bits c.args.a +ʷ half) (c.args.a +ℤ pos half) (most_dividend + half)
 half_holds c = add (a_holds c) (lit half tt) tt
 
-add_result_2 : tie.Need-overflow-add-result-2
-add_result_2 c = add_ok (half_holds c) (sign_holds c) tt
+pub overflow_add-result-2 : goal.overflow_add-result-2
+overflow_add-result-2 c = add_ok (half_holds c) (sign_holds c) tt
 
-returns : tie.Need-returns
+pub returns : goal.returns
 returns c = shifted (2 ^ 30) (add (half_holds c) (sign_holds c) tt) tt ∙ shift_is c.args.a
-
-pub rnd_by_unit_spec : {M : Type 1} → statement M
-rnd_by_unit_spec = tie.close (tie.spec add_result add_result_2 returns)

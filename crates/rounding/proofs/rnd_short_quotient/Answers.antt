@@ -14,8 +14,7 @@ use Rattle.rules.specs.Rounding.{rnd}
 use Rattle.laws.specs.Rounding.{rnd_pos}
 use Rattle.rounding.specs.Given.{most_dividend}
 use Rattle.rounding.proofs.Half.{rnd_size_by_half}
-use Rattle.rounding.proofs.rnd_short_quotient.Statement.{statement}
-use Rattle.rounding.proofs.rnd_short_quotient.Tie as tie
+use Rattle.rounding.proofs.rnd_short_quotient.Goals as goal
 
 -- ---- half of the divisor more, rounded down
 
@@ -37,46 +36,42 @@ rnd_of_negative a (negsuc d) h t = absurd h.lt
 
 -- ---- what the word holds
 
-a_holds : (c : tie.Start) → Holds (bits c.args.a) c.args.a most_dividend
+a_holds : (c : goal.Start) → Holds (bits c.args.a) c.args.a most_dividend
 a_holds c = arg c.args.a c.requires.0 tt
 
-b_holds : (c : tie.Start) → Holds (bits c.args.b) c.args.b (2 ^ 62)
+b_holds : (c : goal.Start) → Holds (bits c.args.b) c.args.b (2 ^ 62)
 b_holds c = arg c.args.b c.requires.1.1 tt
 
-half_holds : (c : tie.Start) → Holds (bits c.args.b /ʷ 2) (quot_z c.args.b (pos 2)) (2 ^ 61)
+half_holds : (c : goal.Start) → Holds (bits c.args.b /ʷ 2) (quot_z c.args.b (pos 2)) (2 ^ 61)
 half_holds c = div_lit 2 (b_holds c) tt tt tt
 
-div_half : tie.Need-nonzero-div-half
-div_half c = div_ok (b_holds c) (lit 2 tt) (lt_z_yes tt) tt
+pub nonzero_div-half : goal.nonzero_div-half
+nonzero_div-half c = div_ok (b_holds c) (lit 2 tt) (lt_z_yes tt) tt
 
-sub_result : tie.Need-overflow-sub-result
-sub_result c = sub_ok (a_holds c.before) (half_holds c.before) tt
+pub overflow_sub-result : goal.overflow_sub-result
+overflow_sub-result c = sub_ok (a_holds c.before) (half_holds c.before) tt
 
-div_result : tie.Need-nonzero-div-result
-div_result c =
+pub nonzero_div-result : goal.nonzero_div-result
+nonzero_div-result c =
     let b = c.before in
     div_ok (sub (a_holds b) (half_holds b) tt) (b_holds b) b.requires.1.0 tt
 
-add_result : tie.Need-overflow-add-result
-add_result c = add_ok (a_holds c.before) (half_holds c.before) tt
+pub overflow_add-result : goal.overflow_add-result
+overflow_add-result c = add_ok (a_holds c.before) (half_holds c.before) tt
 
-div_result_2 : tie.Need-nonzero-div-result-2
+div_result_2 : goal.??nonzero-div-result-2
 div_result_2 c =
     let b = c.before in
     div_ok (add (a_holds b) (half_holds b) tt) (b_holds b) b.requires.1.0 tt
 
-returns : tie.Need-returns
-returns c =
+pub returns-then-a-lt0 : goal.returns-then-a-lt0
+returns-then-a-lt0 c =
     let b = c.before in
     (div (sub (a_holds b) (half_holds b) tt) (b_holds b) b.requires.1.0 tt).value
-    ∙ rnd_of_negative b.args.a b.args.b b.requires.1.0 (rw (a_holds b).value at c.if1.true)
+    ∙ rnd_of_negative b.args.a b.args.b b.requires.1.0 (rw (a_holds b).value at c.if-a-lt0.true)
 
-returns_2 : tie.Need-returns-2
-returns_2 c =
+pub returns-else-a-lt0 : goal.returns-else-a-lt0
+returns-else-a-lt0 c =
     let b = c.before in
     (div (add (a_holds b) (half_holds b) tt) (b_holds b) b.requires.1.0 tt).value
-    ∙ rnd_of_nonnegative b.args.a b.args.b b.requires.1.0 (rw (a_holds b).value at c.if1.false)
-
-pub rnd_short_quotient_spec : {M : Type 1} → statement M
-rnd_short_quotient_spec =
-    tie.close (tie.spec div_half sub_result div_result add_result div_result_2 returns returns_2)
+    ∙ rnd_of_nonnegative b.args.a b.args.b b.requires.1.0 (rw (a_holds b).value at c.if-a-lt0.false)
