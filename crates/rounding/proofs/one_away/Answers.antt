@@ -6,10 +6,10 @@ use Rattle.words.specs.Fits.{fits64, quot_ok}
 use Rattle.rounding.proofs.one_away.Goals as goal
 
 pub overflow_mul-result : goal.overflow_mul-result
-overflow_mul-result c = fits64 _ (rw (to_z-of_z c.ranges.rest, abs_mul) (omega (arith, c.requires.1.0, c.requires.1.1)))
+overflow_mul-result c = fits64 _ (rw (to_z-of_z c.ranges.rest, abs_mul) (omega (arith, c.requires.b_bound, c.requires.rest_bound)))
 
 pub nonzero_div-result : goal.nonzero_div-result
-nonzero_div-result c = quot_ok _ c.args.b (overflow_mul-result c) c.ranges.b c.requires.0
+nonzero_div-result c = quot_ok _ c.args.b (overflow_mul-result c) c.ranges.b c.requires.pos_bound
 
 pub returns : goal.returns
 returns c =

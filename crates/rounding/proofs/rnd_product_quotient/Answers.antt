@@ -164,7 +164,7 @@ pub overflow_mul-result-2 : goal.overflow_mul-result-2
 overflow_mul-result-2 c = mul_ok (quotients_hold c) digit_holds tt
 
 pub rnd_quotient-requires : goal.rnd_quotient-requires
-rnd_quotient-requires c = rw (d_holds c).value (c.requires.divisor_pos, omega (arith, c.requires.divisor_le))
+rnd_quotient-requires c = rw (d_holds c).value (record { pos_bound = c.requires.divisor_pos; b_bound = omega (arith, c.requires.divisor_le) })
 
 pub overflow_add-result-2 : goal.overflow_add-result-2
 overflow_add-result-2 c =

@@ -21,7 +21,7 @@ b_held : (c : goal.Start) → to_z w64 (of_z w64 c.args.b) ≡ c.args.b
 b_held c = to_z-of_z c.ranges.b
 
 quotient_held : (c : goal.Start) → to_z w64 (of_z w64 (quot_z c.args.a c.args.b)) ≡ quot_z c.args.a c.args.b
-quotient_held c = to_z-of_z (quot_fits c.args.a c.args.b c.ranges.a c.requires.0)
+quotient_held c = to_z-of_z (quot_fits c.args.a c.args.b c.ranges.a c.requires.pos_bound)
 
 rest_held : (c : goal.Start) → to_z w64 (of_z w64 (rem_z c.args.a c.args.b)) ≡ rem_z c.args.a c.args.b
 rest_held c = to_z-of_z (rem_fits c.args.a c.args.b c.ranges.a)
@@ -29,29 +29,29 @@ rest_held c = to_z-of_z (rem_fits c.args.a c.args.b c.ranges.a)
 ruleset held = (a_held, b_held, quotient_held, rest_held)
 
 step_is : (c : goal.After-one_away)
-    → to_z w64 (of_z w64 c.one-away.result)
+    → to_z w64 (of_z w64 c.one_away.result)
     ≡ quot_z (pos 2 *ℤ rem_z c.before.args.a c.before.args.b) c.before.args.b
-step_is c = held64 c.one-away.result c.one-away.type-inv ∙ simp held at c.one-away.ensures
+step_is c = held64 c.one_away.result c.one_away.type_inv ∙ simp held at c.one_away.ensures
 
 -- ---- the needs
 
 pub nonzero_div-result : goal.nonzero_div-result
-nonzero_div-result c = quot_ok c.args.a c.args.b c.ranges.a c.ranges.b c.requires.0
+nonzero_div-result c = quot_ok c.args.a c.args.b c.ranges.a c.ranges.b c.requires.pos_bound
 
-rem_one_away : goal.??nonzero-rem-one-away
-rem_one_away c = nonzero_div-result c
+pub nonzero_rem-a : goal.nonzero_rem-a
+nonzero_rem-a c = nonzero_div-result c
 
 pub one_away-requires : goal.one_away-requires
 one_away-requires c =
-    let lt = rem_lt c.args.a c.args.b (size_pos c.args.b c.requires.0) in
-    simp held (c.requires.0, (c.requires.1, omega (arith, c.requires.1)))
+    let lt = rem_lt c.args.a c.args.b (size_pos c.args.b c.requires.pos_bound) in
+    simp held (record { pos_bound = c.requires.pos_bound; b_bound = c.requires.b_bound; rest_bound = omega (arith, c.requires.b_bound) })
 
 sum_fits : (c : goal.Start)
     → SFits w64 (quot_z c.args.a c.args.b +ℤ quot_z (pos 2 *ℤ rem_z c.args.a c.args.b) c.args.b)
 sum_fits c =
     let b = c.args.b in
-    rw (rnd_by_quotients c.args.a b c.requires.0)
-    (sfits_le (mag_rnd c.args.a (nat_abs b) (size_pos b c.requires.0)) c.ranges.a)
+    rw (rnd_by_quotients c.args.a b c.requires.pos_bound)
+    (sfits_le (mag_rnd c.args.a (nat_abs b) (size_pos b c.requires.pos_bound)) c.ranges.a)
 
 pub overflow_add-result : goal.overflow_add-result
 overflow_add-result c = simp (held, step_is c) (sum_fits c.before)
@@ -59,4 +59,4 @@ overflow_add-result c = simp (held, step_is c) (sum_fits c.before)
 pub returns : goal.returns
 returns c =
     simp (held, step_is c, to_z-of_z (sum_fits c.before))
-    (rnd_by_quotients c.before.args.a c.before.args.b c.before.requires.0)
+    (rnd_by_quotients c.before.args.a c.before.args.b c.before.requires.pos_bound)

@@ -37,10 +37,10 @@ rnd_of_negative a (negsuc d) h t = absurd h.lt
 -- ---- what the word holds
 
 a_holds : (c : goal.Start) → Holds (bits c.args.a) c.args.a most_dividend
-a_holds c = arg c.args.a c.requires.0 tt
+a_holds c = arg c.args.a c.requires.a_bound tt
 
 b_holds : (c : goal.Start) → Holds (bits c.args.b) c.args.b (2 ^ 62)
-b_holds c = arg c.args.b c.requires.1.1 tt
+b_holds c = arg c.args.b c.requires.b_bound tt
 
 half_holds : (c : goal.Start) → Holds (bits c.args.b /ʷ 2) (quot_z c.args.b (pos 2)) (2 ^ 61)
 half_holds c = div_lit 2 (b_holds c) tt tt tt
@@ -54,24 +54,24 @@ overflow_sub-result c = sub_ok (a_holds c.before) (half_holds c.before) tt
 pub nonzero_div-result : goal.nonzero_div-result
 nonzero_div-result c =
     let b = c.before in
-    div_ok (sub (a_holds b) (half_holds b) tt) (b_holds b) b.requires.1.0 tt
+    div_ok (sub (a_holds b) (half_holds b) tt) (b_holds b) b.requires.pos_bound tt
 
 pub overflow_add-result : goal.overflow_add-result
 overflow_add-result c = add_ok (a_holds c.before) (half_holds c.before) tt
 
-div_result_2 : goal.??nonzero-div-result-2
-div_result_2 c =
+pub nonzero_div-result-else-a-lt0 : goal.nonzero_div-result-else-a-lt0
+nonzero_div-result-else-a-lt0 c =
     let b = c.before in
-    div_ok (add (a_holds b) (half_holds b) tt) (b_holds b) b.requires.1.0 tt
+    div_ok (add (a_holds b) (half_holds b) tt) (b_holds b) b.requires.pos_bound tt
 
 pub returns-then-a-lt0 : goal.returns-then-a-lt0
 returns-then-a-lt0 c =
     let b = c.before in
-    (div (sub (a_holds b) (half_holds b) tt) (b_holds b) b.requires.1.0 tt).value
-    ∙ rnd_of_negative b.args.a b.args.b b.requires.1.0 (rw (a_holds b).value at c.if-a-lt0.true)
+    (div (sub (a_holds b) (half_holds b) tt) (b_holds b) b.requires.pos_bound tt).value
+    ∙ rnd_of_negative b.args.a b.args.b b.requires.pos_bound (rw (a_holds b).value at c.if-a-lt0.true)
 
 pub returns-else-a-lt0 : goal.returns-else-a-lt0
 returns-else-a-lt0 c =
     let b = c.before in
-    (div (add (a_holds b) (half_holds b) tt) (b_holds b) b.requires.1.0 tt).value
-    ∙ rnd_of_nonnegative b.args.a b.args.b b.requires.1.0 (rw (a_holds b).value at c.if-a-lt0.false)
+    (div (add (a_holds b) (half_holds b) tt) (b_holds b) b.requires.pos_bound tt).value
+    ∙ rnd_of_nonnegative b.args.a b.args.b b.requires.pos_bound (rw (a_holds b).value at c.if-a-lt0.false)
