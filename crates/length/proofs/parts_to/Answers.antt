@@ -11,10 +11,12 @@ use Rattle.laws.specs.Directions.{PartsLe, parts_le}
 use Rattle.words.specs.Fits.{held64}
 use Rattle.words.specs.Holds.{Holds, bits, arg, got}
 use Rattle.length.specs.Given.{PartFits}
-use Rattle.length.proofs.parts_to.Statement.{statement}
+use Rattle.length.proofs.parts_to.Goals as goal
+use Rattle.length.proofs.parts_to.Lts as lts
 use Rattle.length.proofs.parts_to.Tie as tie
+use Rattle.length.proofs.parts_to.Reads as reads
 
-module _ (c : tie.Start) where
+module _ (c : lts.Start tie.the-claims reads.Pre reads.Post) where
   abbrev v : Direction
   v = c.args.v
 
@@ -45,33 +47,30 @@ module _ (c : tie.Start) where
   fits : (part : ℤ) → nat_abs part ≤ 2 ^ 32 → PartFits part l
   fits part h = record { part_le = h; length_pos = length_pos; length_le = length_le }
 
-part_to_requires : tie.Need-part-to-requires
-part_to_requires c κs =
-    let b = c.before in
+pub part_to-x-requires : goal.part_to-x-requires
+part_to-x-requires c =
+    let b = c.before.before in
     rw ((x_holds b).value, (length_holds b).value) (fits b (v b).x (x_holds b).size)
 
-part_to_requires_2 : tie.Need-part-to-requires-2
-part_to_requires_2 c κs =
-    let b = c.before.before.before in
+pub part_to-y-requires : goal.part_to-y-requires
+part_to-y-requires c =
+    let b = c.before.before.before.before in
     rw ((y_holds b).value, (length_holds b).value) (fits b (v b).y (y_holds b).size)
 
-part_to_requires_3 : tie.Need-part-to-requires-3
-part_to_requires_3 c κs =
-    let b = c.before.before.before.before.before in
+pub part_to-z-requires : goal.part_to-z-requires
+part_to-z-requires c =
+    let b = c.before.before.before.before.before.before in
     rw ((z_holds b).value, (length_holds b).value) (fits b (v b).z (z_holds b).size)
 
-returns : tie.Need-returns
+pub returns : goal.returns
 unfolding to_length
 returns c =
     let b = c.before.before.before.before.before.before in
-    let first = c.before.before.before.before.part_to_lem in
-    let second = c.before.before.part-to2 in
-    let third = c.part-to3 in
-    let x-is = held64 first.result first.type-inv ∙ rw ((x_holds b).value, (length_holds b).value) at first.ensures in
+    let first = c.before.before.before.before.part_to-x in
+    let second = c.before.before.part_to-y in
+    let third = c.part_to-z in
+    let x-is = held64 first.result first.type_inv ∙ rw ((x_holds b).value, (length_holds b).value) at first.ensures in
     let y-is =
-    held64 second.result second.type-inv ∙ rw ((y_holds b).value, (length_holds b).value) at second.ensures in
-    let z_is = held64 third.result third.type-inv ∙ rw ((z_holds b).value, (length_holds b).value) at third.ensures in
+    held64 second.result second.type_inv ∙ rw ((y_holds b).value, (length_holds b).value) at second.ensures in
+    let z_is = held64 third.result third.type_inv ∙ rw ((z_holds b).value, (length_holds b).value) at third.ensures in
     λ i. record { x = x-is i; y = y-is i; z = z_is i }
-
-pub parts_to_spec : {M : Type 1} → statement M
-parts_to_spec = tie.close (tie.spec part_to_requires part_to_requires_2 part_to_requires_3 returns)

@@ -7,8 +7,10 @@ use Rattle.integers.specs.Size.{square_abs}
 use Rattle.integers.specs.Square.{le_of_square_le, squares_of_pos}
 use Rattle.rules.specs.Length.{square, squares}
 use Rattle.words.specs.Holds.{Holds, bits, ◌+ʷ◌, ◌*ʷ◌, arg, add_to, add_to_ok, mul_to, mul_to_ok}
-use Rattle.length.proofs.squares_sum.Statement.{statement}
+use Rattle.length.proofs.squares_sum.Goals as goal
+use Rattle.length.proofs.squares_sum.Lts as lts
 use Rattle.length.proofs.squares_sum.Tie as tie
+use Rattle.length.proofs.squares_sum.Reads as reads
 
 -- the most that the sum can be
 abbrev most : ℕ
@@ -19,7 +21,7 @@ part_le a n h k = le_of_square_le a (2 ^ 32) (omega arith)
 
 -- ---- what the words hold
 
-module _ (c : tie.Start) where
+module _ (c : lts.Start reads.Pre reads.Post) where
   abbrev x : ℤ
   x = c.args.v.x
 
@@ -75,35 +77,31 @@ module _ (c : tie.Start) where
 
 -- ---- the needs
 
-mul_result : tie.Need-overflow-mul-result
-mul_result c = let b = c.before.before in mul_to_ok (x_holds b) (x_holds b) most (x_square_le b) tt
+pub overflow_mul-result : goal.overflow_mul-result
+overflow_mul-result c = let b = c.before.before in mul_to_ok (x_holds b.before) (x_holds b.before) most (x_square_le b.before) tt
 
-mul_result_2 : tie.Need-overflow-mul-result-2
-mul_result_2 c =
+pub overflow_mul-result-2 : goal.overflow_mul-result-2
+overflow_mul-result-2 c =
     let b = c.before.before.before.before in
-    mul_to_ok (y_holds b) (y_holds b) most (y_square_le b) tt
+    mul_to_ok (y_holds b.before) (y_holds b.before) most (y_square_le b.before) tt
 
-add_result : tie.Need-overflow-add-result
-add_result c =
+pub overflow_add-result : goal.overflow_add-result
+overflow_add-result c =
     let b = c.before.before.before.before in
-    add_to_ok (x_square_holds b) (y_square_holds b) most (two_le b) tt
+    add_to_ok (x_square_holds b.before) (y_square_holds b.before) most (two_le b.before) tt
 
-mul_result_3 : tie.Need-overflow-mul-result-3
-mul_result_3 c =
+pub overflow_mul-result-3 : goal.overflow_mul-result-3
+overflow_mul-result-3 c =
     let b = c.before.before.before.before.before.before in
     mul_to_ok (z_holds b) (z_holds b) most (z_square_le b) tt
 
-add_result_2 : tie.Need-overflow-add-result-2
-add_result_2 c =
+pub overflow_add-result-2 : goal.overflow_add-result-2
+overflow_add-result-2 c =
     let b = c.before.before.before.before.before.before in
     add_to_ok (two_hold b) (z_square_holds b) most (all_le b) tt
 
-returns : tie.Need-returns
+pub returns : goal.returns
 unfolding squares square
 returns c =
     let b = c.before.before.before.before.before.before in
     (add_to (two_hold b) (z_square_holds b) most (all_le b) tt).value ∙ squares_of_pos (x b) (y b) (z b)
-
-pub squares_sum_spec : {M : Type 1} → statement M
-squares_sum_spec =
-    tie.close (tie.spec mul_result mul_result_2 add_result mul_result_3 add_result_2 returns)
