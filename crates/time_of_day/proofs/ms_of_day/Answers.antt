@@ -3,10 +3,9 @@ use Prim.Native.Nat.{◌+◌, ◌*◌}
 use lib.IntN.{pos, ◌+ℤ◌, ◌*ℤ◌}
 use Rattle.words.specs.Holds.{Holds, bits, ◌+ʷ◌, ◌*ʷ◌, lit, arg, add, add_ok, mul, mul_ok}
 use Rattle.rules.specs.Dates.{ms_of_day}
-use Rattle.time_of_day.proofs.ms_of_day.Statement.{statement}
-use Rattle.time_of_day.proofs.ms_of_day.Tie as tie
+use Rattle.time_of_day.proofs.ms_of_day.Goals as goal
 
-module _ (c : tie.Start) where
+module _ (c : goal.Start) where
   hour : Holds (bits c.args.hour) c.args.hour 23
   hour = arg c.args.hour c.requires.hour.at_most tt
 
@@ -39,28 +38,24 @@ module _ (c : tie.Start) where
       (((23 * 60 + 59) * 60 + 60) * 1000)
   in_ms = mul seconds (lit 1000 tt) tt
 
-returns : tie.Need-returns
+pub returns : goal.returns
 unfolding ms_of_day
 returns c = (add (in_ms c) (ms c) tt).value
 
-mul_result : tie.Need-overflow-mul-result
-mul_result c = mul_ok (hour c) (lit 60 tt) tt
+pub overflow_mul-result : goal.overflow_mul-result
+overflow_mul-result c = mul_ok (hour c) (lit 60 tt) tt
 
-add_result : tie.Need-overflow-add-result
-add_result c = add_ok (hours c) (minute c) tt
+pub overflow_add-result : goal.overflow_add-result
+overflow_add-result c = add_ok (hours c) (minute c) tt
 
-mul_result_2 : tie.Need-overflow-mul-result-2
-mul_result_2 c = mul_ok (minutes c) (lit 60 tt) tt
+pub overflow_mul-result-2 : goal.overflow_mul-result-2
+overflow_mul-result-2 c = mul_ok (minutes c) (lit 60 tt) tt
 
-add_result_2 : tie.Need-overflow-add-result-2
-add_result_2 c = add_ok (in_seconds c) (second c) tt
+pub overflow_add-result-2 : goal.overflow_add-result-2
+overflow_add-result-2 c = add_ok (in_seconds c) (second c) tt
 
-mul_result_3 : tie.Need-overflow-mul-result-3
-mul_result_3 c = mul_ok (seconds c) (lit 1000 tt) tt
+pub overflow_mul-result-3 : goal.overflow_mul-result-3
+overflow_mul-result-3 c = mul_ok (seconds c) (lit 1000 tt) tt
 
-add_result_3 : tie.Need-overflow-add-result-3
-add_result_3 c = add_ok (in_ms c) (ms c) tt
-
-pub ms_of_day_spec : {M : Type 1} → statement M
-ms_of_day_spec =
-    tie.close (tie.spec mul_result add_result mul_result_2 add_result_2 mul_result_3 add_result_3 returns)
+pub overflow_add-result-3 : goal.overflow_add-result-3
+overflow_add-result-3 c = add_ok (in_ms c) (ms c) tt

@@ -2,10 +2,9 @@
 use Prim.Native.Nat.{◌+◌, ◌*◌}
 use lib.IntN.{pos, ◌+ℤ◌, ◌*ℤ◌}
 use Rattle.words.specs.Holds.{Holds, bits, ◌+ʷ◌, ◌*ʷ◌, lit, arg, add, add_ok, sub, sub_ok, mul, mul_ok}
-use Rattle.time_of_day.proofs.utc_ms.Statement.{statement}
-use Rattle.time_of_day.proofs.utc_ms.Tie as tie
+use Rattle.time_of_day.proofs.utc_ms.Goals as goal
 
-module _ (c : tie.Start) where
+module _ (c : goal.Start) where
   day : Holds (bits c.args.day) c.args.day 36524
   day = arg c.args.day c.requires.0 tt
 
@@ -19,17 +18,14 @@ module _ (c : tie.Start) where
       (36524 * 86400000 + 86400999)
   sum = add days ms tt
 
-returns : tie.Need-returns
+pub returns : goal.returns
 returns c = (sub (sum c) (lit 43200000 tt) tt).value
 
-mul_result : tie.Need-overflow-mul-result
-mul_result c = mul_ok (day c) (lit 86400000 tt) tt
+pub overflow_mul-result : goal.overflow_mul-result
+overflow_mul-result c = mul_ok (day c) (lit 86400000 tt) tt
 
-add_result : tie.Need-overflow-add-result
-add_result c = add_ok (days c) (ms c) tt
+pub overflow_add-result : goal.overflow_add-result
+overflow_add-result c = add_ok (days c) (ms c) tt
 
-sub_result : tie.Need-overflow-sub-result
-sub_result c = sub_ok (sum c) (lit 43200000 tt) tt
-
-pub utc_ms_spec : {M : Type 1} → statement M
-utc_ms_spec = tie.close (tie.spec mul_result add_result sub_result returns)
+pub overflow_sub-result : goal.overflow_sub-result
+overflow_sub-result c = sub_ok (sum c) (lit 43200000 tt) tt
