@@ -10,8 +10,7 @@ use Rattle.rules.specs.Bytes.{unsigned_at}
 use Rattle.laws.specs.ByteByByte.{below}
 use Rattle.laws.specs.FileParts.{unsigned_cons, unsigned_none}
 use Rattle.words.specs.Fits.{held64}
-use Rattle.list_bytes.proofs.two_bytes_at.Statement.{statement}
-use Rattle.list_bytes.proofs.two_bytes_at.Tie as tie
+use Rattle.list_bytes.proofs.two_bytes_at.Goals as goal
 
 -- a byte alone, and a byte below it
 upper_is : (r : ℤ) (b : ℕ) → r ≡ below b (pos 0) → r ≡ pos b
@@ -23,23 +22,23 @@ upper_lt r b e h = rw (upper_is r b e) (omega arith)
 both_is : (r z : ℤ) (a b : ℕ) → r ≡ below a z → z ≡ pos b → r ≡ pos (a + 256 * b)
 both_is r z a b e f = e ∙ rw f (ap pos (omega arith))
 
-shared_slice_read_joined : tie.Need-shared-slice-read-joined
-shared_slice_read_joined c = search rules
+pub bounds-file-at : goal.bounds-file-at
+bounds-file-at c = search rules
 
-add_joined : tie.Need-overflow-add-joined
-add_joined c = search rules
+pub overflow_add-at : goal.overflow_add-at
+overflow_add-at c = search rules
 
-shared_slice_read_joined_2 : tie.Need-shared-slice-read-joined-2
-shared_slice_read_joined_2 c = search rules
+pub bounds-file-at-2 : goal.bounds-file-at-2
+bounds-file-at-2 c = search rules
 
-joined_requires : tie.Need-joined-requires
-joined_requires c κs = search rules
+pub joined-requires : goal.joined-requires
+joined-requires c = search rules
 
-joined_requires_2 : tie.Need-joined-requires-2
-joined_requires_2 c κs = rw (held64 c.joined.result c.joined.type-inv)
-    (upper_lt c.joined.result _ c.joined.ensures (c.before.shared-slice-known3.given _).fits)
+pub joined-requires-2 : goal.joined-requires-2
+joined-requires-2 c = rw (held64 c.joined.result c.joined.type_inv)
+    (upper_lt c.joined.result _ c.joined.ensures (c.before.shared_slice_known-3-1.given _).fits)
 
-returns : tie.Need-returns
+pub returns : goal.returns
 returns c =
     let start = c.before.before.before.before.before in
     let at = start.args.at in
@@ -51,19 +50,8 @@ returns c =
       unsigned_cons (at + 1) 0 file (omega (arith, start.requires)),
       unsigned_none (at + 1 + 1) file,
     ) in
-    let upper = held64 c.before.joined.result c.before.joined.type-inv
+    let upper = held64 c.before.joined.result c.before.joined.type_inv
     ∙ upper_is c.before.joined.result (get_or file (at + 1) 0) c.before.joined.ensures in
-    held64 c.joined2.result c.joined2.type-inv
-    ∙ both_is c.joined2.result _ (get_or file at 0) (get_or file (at + 1) 0) c.joined2.ensures upper
+    held64 c.joined-2.result c.joined-2.type_inv
+    ∙ both_is c.joined-2.result _ (get_or file at 0) (get_or file (at + 1) 0) c.joined-2.ensures upper
     ∙ ap pos (sym is)
-
-pub two_bytes_at_spec : {M : Type 1} → statement M
-two_bytes_at_spec =
-    tie.close
-    (tie.spec
-    shared_slice_read_joined
-    add_joined
-    shared_slice_read_joined_2
-    joined_requires
-    joined_requires_2
-    returns)

@@ -11,25 +11,21 @@ use mir.Val.{to_z, of_z}
 use lib.Dec.{lit<}
 use Rattle.rules.specs.Rounding.{modulo}
 use Rattle.laws.specs.Modulo.{modulo_lt}
-use Rattle.list_bytes.proofs.low_byte.Statement.{statement}
-use Rattle.list_bytes.proofs.low_byte.Tie as tie
+use Rattle.list_bytes.proofs.low_byte.Goals as goal
 
 low_bits : (z : ℤ) → mag z < 2 ^ 63 → of_z w64 z % 256 ≡ modulo z 256
 unfolding modulo
 low_bits (pos n) l = refl
 low_bits (negsuc n) l = omega (arith, l)
 
-masked : (c : tie.Start) → to_z w64 (bit_and (of_z w64 c.args.z) 255) ≡ pos (modulo c.args.z 256)
+masked : (c : goal.Start) → to_z w64 (bit_and (of_z w64 c.args.z) 255) ≡ pos (modulo c.args.z 256)
 masked c =
     let e : bit_and (of_z w64 c.args.z) 255 ≡ modulo c.args.z 256 = and_mask (of_z w64 c.args.z) 8
     ∙ low_bits c.args.z c.ranges.z.sfits in
     ap (to_z w64) e ∙ to_z_pos w64 (omega (arith, modulo_lt c.args.z 256 (lit< tt)))
 
-cast_result : tie.Need-overflow-cast-result
-cast_result c = simp (masked c) (tt, record { fits = modulo_lt c.args.z 256 (lit< tt) })
+pub overflow_cast-result : goal.overflow_cast-result
+overflow_cast-result c = simp (masked c) (tt, record { fits = modulo_lt c.args.z 256 (lit< tt) })
 
-returns : tie.Need-returns
+pub returns : goal.returns
 returns c = ap nat_abs (masked c)
-
-pub low_byte_spec : {M : Type 1} → statement M
-low_byte_spec = tie.close (tie.spec cast_result returns)
