@@ -67,8 +67,8 @@ nonzero_div-m c = nonzero_rem-m c.before
 pub in_quarter-requires : goal.in_quarter-requires
 in_quarter-requires c =
     let b = c.before.before.before in
-    let n = angle b.before.before.before in
-    rw ((quarter_holds b.before.before).value, (cosine_holds b).value, (sine_holds b).value)
+    let n = angle b.before.before in
+    rw ((quarter_holds b.before).value, (cosine_holds b).value, (sine_holds b).value)
     (record {
       q_range = up_to_pos (n / quarter) 3 (omega (arith, angle_lt b.before.before));
       cosine_le = (cosine_holds b).size;
