@@ -17,7 +17,7 @@ use Rattle.laws.specs.UpTo.{UpTo}
 use Rattle.laws.specs.Angles.{pair_circle, pair_opposite, pair_complement, pair_half, pair_supplement}
 use Rattle.laws.specs.ReadingRange.{angle_wide, angle_high, angle_to_quarter_range, by_signs_range}
 use Rattle.laws.specs.ReadingRange.{signs_plus_plus, signs_minus_plus, signs_minus_minus, signs_plus_minus}
-use Rattle.laws.specs.Octant.{Points, octant_points}
+use Rattle.laws.proofs.Octant.{Points, octant_points}
 use Rattle.laws.specs.NoAngle.{angled}
 
 -- ---- the promises, mirrored

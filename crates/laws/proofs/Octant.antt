@@ -19,7 +19,7 @@ use Rattle.laws.specs.HalfQuarterLess.{less_numerator, less_denominator}
 use Rattle.laws.specs.AdditionFormulas.{whole_less, cosine_less_near, sine_less_near}
 use Rattle.laws.specs.Arc.{ratio, three_sevenths, arc_numerator, arc_denominator, arc_near, arc_of_ratio_range}
 use Rattle.laws.specs.Arc.{arc_le}
-use Rattle.laws.specs.ArcSeries.{arc_ratio_near}
+use Rattle.laws.proofs.ArcSeries.{arc_ratio_near}
 use Rattle.laws.specs.ReadingRange.{angle_flat, angle_steep, angle_to_half_range}
 use Rattle.laws.specs.ReadingParts.{parts_of_arc, parts_of_less}
 use Rattle.laws.specs.Across.{close, turned}
