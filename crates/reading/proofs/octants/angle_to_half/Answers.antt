@@ -11,41 +11,40 @@ use Rattle.laws.specs.ReadingRange.{microarcseconds_range, angle_flat, angle_ste
 use Rattle.words.specs.Holds.{Holds, bits, ◌+ʷ◌, ◌-ʷ◌, ◌*ʷ◌, got, lit, add, add_ok, sub, sub_ok, sub_nat, sub_nat_ok}
 use Rattle.words.specs.Holds.{mul, mul_ok}
 use Rattle.reading.specs.Given.{RatioGiven}
-use Rattle.reading.proofs.octants.angle_to_half.Statement.{statement}
-use Rattle.reading.proofs.octants.angle_to_half.Tie as tie
+use Rattle.reading.proofs.octants.angle_to_half.Goals as goal
 
-abbrev m : tie.Start → ℕ
+abbrev m : goal.Start → ℕ
 m c = nat_abs c.args.m
 
-abbrev n : tie.Start → ℕ
+abbrev n : goal.Start → ℕ
 n c = nat_abs c.args.n
 
-m_holds : (c : tie.Start) → Holds (bits c.args.m) (pos (m c)) (2 ^ 31)
+m_holds : (c : goal.Start) → Holds (bits c.args.m) (pos (m c)) (2 ^ 31)
 m_holds c =
     got (up_to_is c.args.m (2 ^ 31) c.requires.m_range) (up_to_le c.args.m (2 ^ 31) c.requires.m_range) tt
 
-n_holds : (c : tie.Start) → Holds (bits c.args.n) (pos (n c)) (2 ^ 31)
+n_holds : (c : goal.Start) → Holds (bits c.args.n) (pos (n c)) (2 ^ 31)
 n_holds c =
     got (up_to_is c.args.n (2 ^ 31) c.requires.n_range) (up_to_le c.args.n (2 ^ 31) c.requires.n_range) tt
 
 -- ---- the switch
 
-five_holds : (c : tie.Start) → Holds (5 *ʷ bits c.args.m) (pos (5 * m c)) (5 * 2 ^ 31)
+five_holds : (c : goal.Start) → Holds (5 *ʷ bits c.args.m) (pos (5 * m c)) (5 * 2 ^ 31)
 five_holds c = mul (lit 5 tt) (m_holds c) tt
 
-two_holds : (c : tie.Start) → Holds (2 *ʷ bits c.args.n) (pos (2 * n c)) (2 * 2 ^ 31)
+two_holds : (c : goal.Start) → Holds (2 *ʷ bits c.args.n) (pos (2 * n c)) (2 * 2 ^ 31)
 two_holds c = mul (lit 2 tt) (n_holds c) tt
 
-flat : (c : tie.Then1) → 5 * m c.before ≤ 2 * n c.before
+flat : (c : goal.Then-m-n) → 5 * m c.before ≤ 2 * n c.before
 flat c =
     let b = c.before in
-    let t = rw ((five_holds b).value, (two_holds b).value) at c.if1.true in
+    let t = rw ((five_holds b).value, (two_holds b).value) at c.if-m-n.true in
     omega (arith, le_z_true (pos (5 * m b)) (pos (2 * n b)) t)
 
-steep : (c : tie.Else1) → 2 * n c.before < 5 * m c.before
+steep : (c : goal.Else-m-n) → 2 * n c.before < 5 * m c.before
 steep c =
     let b = c.before in
-    let t = rw ((five_holds b).value, (two_holds b).value) at c.if1.false in
+    let t = rw ((five_holds b).value, (two_holds b).value) at c.if-m-n.false in
     omega (arith, le_z_false (pos (5 * m b)) (pos (2 * n b)) t)
 
 given : (a b : ℕ) → a ≤ 2 ^ 32 → b ≤ 2 ^ 32 → 0 < b → 7 * a ≤ 3 * b → RatioGiven (pos a) (pos b)
@@ -58,22 +57,22 @@ given a b ha hb hp h = record {
 
 -- ---- the first case
 
-first_le : (c : tie.Then1) → 7 * m c.before ≤ 3 * n c.before
+first_le : (c : goal.Then-m-n) → 7 * m c.before ≤ 3 * n c.before
 first_le c = omega (arith, flat c)
 
-first_ratio_holds : (c : tie.After-ratio-of)
-    → Holds (bits c.ratio-of.result) (ratio (m c.before.before) (n c.before.before)) three_sevenths
+first_ratio_holds : (c : goal.After-ratio_of)
+    → Holds (bits c.ratio_of.result) (ratio (m c.before.before) (n c.before.before)) three_sevenths
 first_ratio_holds c =
     let b = c.before.before in
-    got (rw ((m_holds b).value, (n_holds b).value) at c.ratio-of.ensures)
+    got (rw ((m_holds b).value, (n_holds b).value) at c.ratio_of.ensures)
     (up_to_le (ratio (m b) (n b)) three_sevenths (ratio_range (m b) (n b) b.requires.n_pos (first_le c.before))) tt
 
-first_range : (c : tie.Then1) → UpTo (rule.arc (ratio (m c.before) (n c.before))) three_sevenths
+first_range : (c : goal.Then-m-n) → UpTo (rule.arc (ratio (m c.before) (n c.before))) three_sevenths
 first_range c =
     let b = c.before in
     arc_of_ratio_range (m b) (n b) b.requires.n_pos (first_le c)
 
-first_arc_holds : (c : tie.After-arc)
+first_arc_holds : (c : goal.After-arc)
     → Holds (bits c.arc.result) (rule.arc (ratio (m c.before.before.before) (n c.before.before.before)))
     three_sevenths
 first_arc_holds c =
@@ -81,135 +80,117 @@ first_arc_holds c =
     got (rw (first_ratio_holds c.before).value at c.arc.ensures)
     (up_to_le (rule.arc (ratio (m b) (n b))) three_sevenths (first_range c.before.before)) tt
 
-returns : tie.Need-returns
-returns c =
+pub returns-then-m-n : goal.returns-then-m-n
+returns-then-m-n c =
     let b = c.before.before.before.before in
     let θ = rule.arc (ratio (m b) (n b)) in
     let i = microarcseconds_range θ (first_range c.before.before.before) in
     rw (angle_flat (m b) (n b) (flat c.before.before.before))
-    (got (rw (first_arc_holds c.before).value at c.in_microarcseconds_lem.ensures)
+    (got (rw (first_arc_holds c.before).value at c.in_microarcseconds.ensures)
     (up_to_le (rule.in_microarcseconds θ) half_quarter i) tt).value
 
 -- ---- the second case
 
-less_holds : (c : tie.Start) → Holds (bits c.args.n -ʷ bits c.args.m) (pos (n c - m c)) (2 ^ 31)
+less_holds : (c : goal.Start) → Holds (bits c.args.n -ʷ bits c.args.m) (pos (n c - m c)) (2 ^ 31)
 less_holds c = sub_nat (n_holds c) (m_holds c) c.requires.m_le_n tt
 
-more_holds : (c : tie.Start) → Holds (bits c.args.n +ʷ bits c.args.m) (pos (n c + m c)) (2 ^ 31 + 2 ^ 31)
+more_holds : (c : goal.Start) → Holds (bits c.args.n +ʷ bits c.args.m) (pos (n c + m c)) (2 ^ 31 + 2 ^ 31)
 more_holds c = add (n_holds c) (m_holds c) tt
 
-second_pos : (c : tie.Else1) → 0 < n c.before + m c.before
+second_pos : (c : goal.Else-m-n) → 0 < n c.before + m c.before
 second_pos c = omega (arith, steep c)
 
-second_le : (c : tie.Else1) → 7 * (n c.before - m c.before) ≤ 3 * (n c.before + m c.before)
-second_le c = omega (arith, steep c, c.before.requires.m_le_n)
+second_le : (c : goal.Else-m-n) → 7 * (n c.before - m c.before) ≤ 3 * (n c.before + m c.before)
+second_le c = omega (arith, steep c, c.requires.m_le_n)
 
-abbrev second : tie.Start → ℤ
+abbrev second : goal.Start → ℤ
 second c = ratio (n c - m c) (n c + m c)
 
-second_ratio_range : (c : tie.Else1) → UpTo (second c.before) three_sevenths
+second_ratio_range : (c : goal.Else-m-n) → UpTo (second c.before) three_sevenths
 second_ratio_range c =
     let b = c.before in
     ratio_range (n b - m b) (n b + m b) (second_pos c) (second_le c)
 
-second_ratio_holds : (c : tie.After-ratio-of2)
-    → Holds (bits c.ratio-of2.result) (second c.before.before) three_sevenths
+second_ratio_holds : (c : goal.After-ratio_of-2)
+    → Holds (bits c.ratio_of-2.result) (second c.before.before) three_sevenths
 second_ratio_holds c =
     let b = c.before.before in
-    got (rw ((less_holds b).value, (more_holds b).value) at c.ratio-of2.ensures)
+    got (rw ((less_holds b).value, (more_holds b).value) at c.ratio_of-2.ensures)
     (up_to_le (second b) three_sevenths (second_ratio_range c.before)) tt
 
-second_range : (c : tie.Else1) → UpTo (rule.arc (second c.before)) three_sevenths
+second_range : (c : goal.Else-m-n) → UpTo (rule.arc (second c.before)) three_sevenths
 second_range c =
     let b = c.before in
     arc_of_ratio_range (n b - m b) (n b + m b) (second_pos c) (second_le c)
 
-second_arc_holds : (c : tie.After-arc2)
-    → Holds (bits c.arc2.result) (rule.arc (second c.before.before.before)) three_sevenths
+second_arc_holds : (c : goal.After-arc-2)
+    → Holds (bits c.arc-2.result) (rule.arc (second c.before.before.before)) three_sevenths
 second_arc_holds c =
     let b = c.before.before.before in
-    got (rw (second_ratio_holds c.before).value at c.arc2.ensures)
+    got (rw (second_ratio_holds c.before).value at c.arc-2.ensures)
     (up_to_le (rule.arc (second b)) three_sevenths (second_range c.before.before)) tt
 
-angle_holds : (c : tie.After-in-microarcseconds2)
-    → Holds (bits c.in-microarcseconds2.result)
+angle_holds : (c : goal.After-in_microarcseconds-2)
+    → Holds (bits c.in_microarcseconds-2.result)
     (rule.in_microarcseconds (rule.arc (second c.before.before.before.before))) half_quarter
 angle_holds c =
     let θ = rule.arc (second c.before.before.before.before) in
-    got (rw (second_arc_holds c.before).value at c.in-microarcseconds2.ensures)
+    got (rw (second_arc_holds c.before).value at c.in_microarcseconds-2.ensures)
     (up_to_le (rule.in_microarcseconds θ) half_quarter
     (microarcseconds_range θ (second_range c.before.before.before))) tt
 
-returns_2 : tie.Need-returns-2
-returns_2 c =
+pub returns : goal.returns
+returns c =
     let b = c.before.before.before.before in
     rw (angle_steep (m b) (n b) (steep c.before.before.before))
     (sub (lit half_quarter tt) (angle_holds c) tt).value
 
 -- ---- what each operation and call asks
 
-mul_if1 : tie.Need-overflow-mul-if1
-mul_if1 c = mul_ok (lit 5 tt) (m_holds c) tt
+pub overflow_mul-m : goal.overflow_mul-m
+overflow_mul-m c = mul_ok (lit 5 tt) (m_holds c) tt
 
-mul_if1_2 : tie.Need-overflow-mul-if1-2
-mul_if1_2 c = mul_ok (lit 2 tt) (n_holds c) tt
+pub overflow_mul-n : goal.overflow_mul-n
+overflow_mul-n c = mul_ok (lit 2 tt) (n_holds c) tt
 
-ratio_of_requires : tie.Need-ratio-of-requires
-ratio_of_requires c κs =
+pub ratio_of-requires : goal.ratio_of-requires
+ratio_of-requires c =
     let b = c.before in
     rw ((m_holds b).value, (n_holds b).value)
     (given (m b) (n b) (omega (arith, (m_holds b).size)) (omega (arith, (n_holds b).size)) b.requires.n_pos (first_le c))
 
-arc_requires : tie.Need-arc-requires
-arc_requires c κs =
+pub arc-requires : goal.arc-requires
+arc-requires c =
     let b = c.before.before in
     rw (first_ratio_holds c).value (ratio_range (m b) (n b) b.requires.n_pos (first_le c.before))
 
-in_microarcseconds_requires : tie.Need-in-microarcseconds-requires
-in_microarcseconds_requires c κs =
+pub in_microarcseconds-requires : goal.in_microarcseconds-requires
+in_microarcseconds-requires c =
     let b = c.before.before.before in
     rw (first_arc_holds c).value
     (up_to_of_le (rule.arc (ratio (m b) (n b))) three_sevenths unit (omega arith) (first_range c.before.before))
 
-sub_ratio_of : tie.Need-overflow-sub-ratio-of
-sub_ratio_of c = sub_nat_ok (n_holds c.before) (m_holds c.before) c.before.requires.m_le_n tt
+pub overflow_sub-n : goal.overflow_sub-n
+overflow_sub-n c = sub_nat_ok (n_holds c.before) (m_holds c.before) c.requires.m_le_n tt
 
-add_ratio_of : tie.Need-overflow-add-ratio-of
-add_ratio_of c = add_ok (n_holds c.before) (m_holds c.before) tt
+pub overflow_add-n : goal.overflow_add-n
+overflow_add-n c = add_ok (n_holds c.before) (m_holds c.before) tt
 
-ratio_of_requires_2 : tie.Need-ratio-of-requires-2
-ratio_of_requires_2 c κs =
+pub ratio_of-requires-2 : goal.ratio_of-requires-2
+ratio_of-requires-2 c =
     let b = c.before in
     rw ((less_holds b).value, (more_holds b).value)
     (given (n b - m b) (n b + m b) (omega (arith, (less_holds b).size)) (omega (arith, (more_holds b).size))
     (second_pos c) (second_le c))
 
-arc_requires_2 : tie.Need-arc-requires-2
-arc_requires_2 c κs = rw (second_ratio_holds c).value (second_ratio_range c.before)
+pub arc-requires-2 : goal.arc-requires-2
+arc-requires-2 c = rw (second_ratio_holds c).value (second_ratio_range c.before)
 
-in_microarcseconds_requires_2 : tie.Need-in-microarcseconds-requires-2
-in_microarcseconds_requires_2 c κs =
+pub in_microarcseconds-requires-2 : goal.in_microarcseconds-requires-2
+in_microarcseconds-requires-2 c =
     let b = c.before.before.before in
     rw (second_arc_holds c).value
     (up_to_of_le (rule.arc (second b)) three_sevenths unit (omega arith) (second_range c.before.before))
 
-sub_result : tie.Need-overflow-sub-result
-sub_result c = sub_ok (lit half_quarter tt) (angle_holds c) tt
-
-pub angle_to_half_spec : {M : Type 1} → statement M
-angle_to_half_spec =
-    tie.close
-    (tie.spec
-    mul_if1
-    mul_if1_2
-    ratio_of_requires
-    arc_requires
-    in_microarcseconds_requires
-    returns
-    sub_ratio_of
-    add_ratio_of
-    ratio_of_requires_2
-    arc_requires_2
-    in_microarcseconds_requires_2
-    sub_result
-    returns_2)
+pub overflow_sub-result : goal.overflow_sub-result
+overflow_sub-result c = sub_ok (lit half_quarter tt) (angle_holds c) tt

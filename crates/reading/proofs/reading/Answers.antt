@@ -12,29 +12,28 @@ use Rattle.rules.specs.Reading.{reading}
 use Rattle.laws.specs.ReadingRange.{reading_is}
 use Rattle.words.specs.Fits.{held64}
 use Rattle.words.specs.Holds.{Holds, widen, widened, widened_ok}
-use Rattle.reading.proofs.reading.Statement.{statement}
-use Rattle.reading.proofs.reading.Tie as tie
+use Rattle.reading.proofs.reading.Goals as goal
 
-h_holds : (c : tie.Start) → Holds (widen (of_z w32 c.args.h)) c.args.h (2 ^ 31)
+h_holds : (c : goal.Start) → Holds (widen (of_z w32 c.args.h)) c.args.h (2 ^ 31)
 h_holds c = widened c.args.h c.ranges.h
 
-v_holds : (c : tie.Start) → Holds (widen (of_z w32 c.args.v)) c.args.v (2 ^ 31)
+v_holds : (c : goal.Start) → Holds (widen (of_z w32 c.args.v)) c.args.v (2 ^ 31)
 v_holds c = widened c.args.v c.ranges.v
 
-cast_first : tie.Need-overflow-cast-first
-cast_first c = widened_ok c.args.h c.ranges.h
+pub overflow_cast-first : goal.overflow_cast-first
+overflow_cast-first c = widened_ok c.args.h c.ranges.h
 
-cast_second : tie.Need-overflow-cast-second
-cast_second c = widened_ok c.args.v c.ranges.v
+pub overflow_cast-second : goal.overflow_cast-second
+overflow_cast-second c = widened_ok c.args.v c.ranges.v
 
 -- ---- both nought
 
-returns : tie.Need-returns
+pub returns-then-second-eq0 : goal.returns-then-second-eq0
 unfolding reading
-returns c =
+returns-then-second-eq0 c =
     let b = c.before.before in
-    let h : b.args.h ≡ pos 0 = sym (h_holds b).value ∙ ap (to_z w64) c.before.if1.true in
-    let w = eqb-true (widen (of_z w32 b.args.v)) 0 c.if2.true in
+    let h : b.args.h ≡ pos 0 = sym (h_holds b).value ∙ ap (to_z w64) c.if-first-eq0.true in
+    let w = c.if-second-eq0.true in
     let v : b.args.v ≡ pos 0 = sym (v_holds b).value ∙ ap (to_z w64) w in
     rw (h, v)
 
@@ -45,26 +44,23 @@ not_nought (pos zero) f = absurd (f refl)
 not_nought (pos (suc n)) f = omega arith
 not_nought (negsuc n) f = omega arith
 
-some : (c : tie.Joined1) → 0 < nat_abs c.before.args.h + nat_abs c.before.args.v
+some : (c : goal.Joined-else-first-eq0) → 0 < nat_abs c.args.h + nat_abs c.args.v
 some c =
     let b = c.before in
     ⊎_elim
-    (λ k. omega (arith, not_nought b.args.v (eqb-false _ 0 k.1.left)))
-    (λ k. omega (arith, not_nought b.args.h k.left))
-    c.if1.branch
+    (λ k. omega (arith, not_nought b.args.v k.1))
+    (λ k. omega (arith, not_nought b.args.h k))
+    c.else-first-eq0.either
 
-returns_2 : tie.Need-returns-2
-returns_2 c =
+pub returns : goal.returns
+returns c =
     let b = c.before.before in
     ap Read.Angle
-    (held64 c.angle-of.result c.angle-of.type-inv ∙ rw ((h_holds b).value, (v_holds b).value) at c.angle-of.ensures)
+    (held64 c.angle_of.result c.angle_of.type_inv ∙ rw ((h_holds b).value, (v_holds b).value) at c.angle_of.ensures)
     ∙ sym (reading_is b.args.h b.args.v (some c.before))
 
-angle_of_requires : tie.Need-angle-of-requires
-angle_of_requires c κs =
+pub angle_of-requires : goal.angle_of-requires
+angle_of-requires c =
     let b = c.before in
     rw ((h_holds b).value, (v_holds b).value)
     (record { h_le = (h_holds b).size; v_le = (v_holds b).size; some = some c })
-
-pub reading_spec : {M : Type 1} → statement M
-reading_spec = tie.close (tie.spec cast_first cast_second returns angle_of_requires returns_2)

@@ -14,24 +14,26 @@ use Rattle.rules.specs.Heights.{as_height, height}
 use Rattle.laws.specs.UpTo.{up_to_le}
 use Rattle.laws.specs.ReadingRange.{angle_of_range}
 use Rattle.words.specs.Holds.{Holds, bits, ◌+ʷ◌, ◌*ʷ◌, arg, got, lit, add, add_ok, sub, sub_ok, mul, mul_ok}
-use Rattle.reading.proofs.octants.height_of.Statement.{statement}
+use Rattle.reading.proofs.octants.height_of.Goals as goal
+use Rattle.reading.proofs.octants.height_of.Lts as lts
 use Rattle.reading.proofs.octants.height_of.Tie as tie
+use Rattle.reading.proofs.octants.height_of.Reads as reads
 
-x_holds : (c : tie.Start) → Holds (bits c.args.x) c.args.x (unit + 1)
+x_holds : (c : goal.Start) → Holds (bits c.args.x) c.args.x (unit + 1)
 x_holds c = arg c.args.x c.requires.x_le tt
 
-y_holds : (c : tie.Start) → Holds (bits c.args.y) c.args.y (unit + 1)
+y_holds : (c : goal.Start) → Holds (bits c.args.y) c.args.y (unit + 1)
 y_holds c = arg c.args.y c.requires.y_le tt
 
-z_holds : (c : tie.Start) → Holds (bits c.args.z) c.args.z (unit + 1)
+z_holds : (c : goal.Start) → Holds (bits c.args.z) c.args.z (unit + 1)
 z_holds c = arg c.args.z c.requires.z_le tt
 
 -- ---- the root of x² + y²
 
-abbrev sum : tie.Start → ℕ
+abbrev sum : goal.Start → ℕ
 sum c = square c.args.x + square c.args.y
 
-squares_hold : (c : tie.Start)
+squares_hold : (c : goal.Start)
     → Holds (bits c.args.x *ʷ bits c.args.x +ʷ bits c.args.y *ʷ bits c.args.y)
     (c.args.x *ℤ c.args.x +ℤ c.args.y *ℤ c.args.y) ((unit + 1) * (unit + 1) + (unit + 1) * (unit + 1))
 squares_hold c = add (mul (x_holds c) (x_holds c) tt) (mul (y_holds c) (y_holds c) tt) tt
@@ -40,7 +42,7 @@ squares_is : (x y : ℤ) → x *ℤ x +ℤ y *ℤ y ≡ pos (square x + square y
 unfolding square
 squares_is x y = rw (square_abs x, square_abs y)
 
-root_holds : (c : tie.After-whole-root) → Holds (bits c.whole_root.result) (pos (root (sum c.before))) (unit + 1)
+root_holds : (c : goal.After-whole_root) → Holds (bits c.whole_root.result) (pos (root (sum c.before))) (unit + 1)
 root_holds c =
     let b = c.before in
     got (rw ((squares_hold b).value, squares_is b.args.x b.args.y) at c.whole_root.ensures)
@@ -48,65 +50,52 @@ root_holds c =
 
 -- ---- the reading
 
-abbrev angle : tie.Start → ℤ
+abbrev angle : goal.Start → ℤ
 angle c = rule.angle_of (pos (root (sum c))) c.args.z
 
-angle_holds : (c : tie.After-angle-of) → Holds (bits c.angle-of.result) (angle c.before.before) (circle - 1)
+angle_holds : (c : lts.After-angle_of tie.the-claims reads.Pre reads.Post) → Holds (bits c.angle_of-a.result) (angle c.before.before) (circle - 1)
 angle_holds c =
     let b = c.before.before in
-    got (rw ((root_holds c.before).value, (z_holds b).value) at c.angle-of.ensures)
+    got (rw ((root_holds c.before).value, (z_holds b).value) at c.angle_of-a.ensures)
     (up_to_le (angle b) (circle - 1) (angle_of_range (pos (root (sum b))) b.args.z)) tt
 
-returns : tie.Need-returns
+pub returns-then-a-gt-HALF : goal.returns-then-a-gt-HALF
 unfolding height as_height
-returns c =
+returns-then-a-gt-HALF c =
     let t : lt_z (pos half) (angle c.before.before.before) ≡ true =
-    rw (angle_holds c.before).value at c.if1.true in
+    rw (angle_holds c.before).value at c.if-a-gt-HALF.true in
     rw t (sub (angle_holds c.before) (lit circle tt) tt).value
 
-returns_2 : tie.Need-returns-2
+pub returns-else-a-gt-HALF : goal.returns-else-a-gt-HALF
 unfolding height as_height
-returns_2 c =
+returns-else-a-gt-HALF c =
     let t : lt_z (pos half) (angle c.before.before.before) ≡ false =
-    rw (angle_holds c.before).value at c.if1.false in
+    rw (angle_holds c.before).value at c.if-a-gt-HALF.false in
     rw t (angle_holds c.before).value
 
 -- ---- what each operation and call asks
 
-mul_whole_root : tie.Need-overflow-mul-whole-root
-mul_whole_root c = mul_ok (x_holds c) (x_holds c) tt
+pub overflow_mul-x : goal.overflow_mul-x
+overflow_mul-x c = mul_ok (x_holds c) (x_holds c) tt
 
-mul_whole_root_2 : tie.Need-overflow-mul-whole-root-2
-mul_whole_root_2 c = mul_ok (y_holds c) (y_holds c) tt
+pub overflow_mul-y : goal.overflow_mul-y
+overflow_mul-y c = mul_ok (y_holds c) (y_holds c) tt
 
-add_whole_root : tie.Need-overflow-add-whole-root
-add_whole_root c = add_ok (mul (x_holds c) (x_holds c) tt) (mul (y_holds c) (y_holds c) tt) tt
+pub overflow_add-x : goal.overflow_add-x
+overflow_add-x c = add_ok (mul (x_holds c) (x_holds c) tt) (mul (y_holds c) (y_holds c) tt) tt
 
-whole_root_requires : tie.Need-whole-root-requires
-whole_root_requires c κs =
+pub whole_root-requires : goal.whole_root-requires
+whole_root-requires c =
     rw ((squares_hold c).value, squares_is c.args.x c.args.y) (record { le = le→leb 0 (sum c) (omega arith) })
 
-angle_of_requires : tie.Need-angle-of-requires
-angle_of_requires c κs =
+pub angle_of-a-requires : goal.angle_of-a-requires
+angle_of-a-requires c =
     rw ((root_holds c).value, (z_holds c.before).value)
     (record {
       h_le = omega (arith, (root_holds c).size);
       v_le = omega (arith, (z_holds c.before).size);
-      some = c.before.requires.some;
+      some = c.requires.some;
     })
 
-sub_result : tie.Need-overflow-sub-result
-sub_result c = sub_ok (angle_holds c.before) (lit circle tt) tt
-
-pub height_of_spec : {M : Type 1} → statement M
-height_of_spec =
-    tie.close
-    (tie.spec
-    mul_whole_root
-    mul_whole_root_2
-    add_whole_root
-    whole_root_requires
-    angle_of_requires
-    sub_result
-    returns
-    returns_2)
+pub overflow_sub-result : goal.overflow_sub-result
+overflow_sub-result c = sub_ok (angle_holds c.before) (lit circle tt) tt
