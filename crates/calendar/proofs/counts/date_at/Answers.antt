@@ -11,10 +11,9 @@ use Rattle.rules.specs.Years.{sum, years}
 use Rattle.laws.specs.Ranges.{InRange}
 use Rattle.laws.specs.Calendar.{years_before_le, less_first}
 use Rattle.laws.specs.FindingDates.{year_at, year_at_lt, year_at_ge, year_at_rest_lt, date_of_count_is}
-use Rattle.calendar.proofs.counts.date_at.Statement.{statement}
-use Rattle.calendar.proofs.counts.date_at.Tie as tie
+use Rattle.calendar.proofs.counts.date_at.Goals as goal
 
-module _ (c : tie.Start) where
+module _ (c : goal.Start) where
   abbrev n : ℕ
   n = nat_abs c.args.count
 
@@ -39,35 +38,35 @@ module _ (c : tie.Start) where
   in_span : InRange 1972 2099 (pos (1972 + year_at n))
   in_span = record { is = refl; at_least = omega arith; at_most = omega (arith, year_at_lt n n_lt) }
 
-mul_year : tie.Need-overflow-mul-year
-mul_year c = mul_ok (lit 4 tt) (count c) tt
+pub overflow_mul-year : goal.overflow_mul-year
+overflow_mul-year c = mul_ok (lit 4 tt) (count c) tt
 
-div_year : tie.Need-nonzero-div-year
-div_year c = div_ok (fourfold c) (lit 1461 tt) (lt_z_yes tt) tt
+pub nonzero_div-year : goal.nonzero_div-year
+nonzero_div-year c = div_ok (fourfold c) (lit 1461 tt) (lt_z_yes tt) tt
 
-add_year : tie.Need-overflow-add-year
-add_year c = add_ok (lit 1972 tt) (quotient c) tt
+pub overflow_add-year : goal.overflow_add-year
+overflow_add-year c = add_ok (lit 1972 tt) (quotient c) tt
 
-years_before_requires : tie.Need-years-before-requires
-years_before_requires c κs = rw (year c).value (in_span c)
+pub years_before-requires : goal.years_before-requires
+years_before-requires c = rw (year c).value (in_span c)
 
 -- the days of the years before, and the rest
-start : (c : tie.After-years-before)
+start : (c : goal.After-years_before)
     → Holds (bits c.years_before.result) (pos (sum (take (year_at (n c.before)) years))) 46752
 start c =
     got (rw ((year c.before).value, less_first) at c.years_before.ensures)
     (years_before_le (year_at (n c.before))) tt
 
-rest : (c : tie.After-years-before)
+rest : (c : goal.After-years_before)
     → Holds (bits c.before.args.count -ʷ bits c.years_before.result)
     (pos (n c.before - sum (take (year_at (n c.before)) years))) 46751
 rest c = sub_nat (count c.before) (start c) (year_at_ge (n c.before) (n_lt c.before)) tt
 
-sub_date_in : tie.Need-overflow-sub-date-in
-sub_date_in c = sub_ok (count c.before) (start c) tt
+pub overflow_sub-count : goal.overflow_sub-count
+overflow_sub-count c = sub_ok (count c.before) (start c) tt
 
-date_in_requires : tie.Need-date-in-requires
-date_in_requires c κs =
+pub date_in-requires : goal.date_in-requires
+date_in-requires c =
     rw ((year c.before).value, (rest c).value)
     (record {
       in_span = in_span c.before;
@@ -76,11 +75,7 @@ date_in_requires c κs =
           (n_lt c.before);
     })
 
-returns : tie.Need-returns
+pub returns : goal.returns
 returns c =
     let s = c.before.before in
-    rw ((year s).value, (rest c.before).value) at c.date-in.ensures ∙ sym (date_of_count_is (n s) (n_lt s))
-
-pub date_at_spec : {M : Type 1} → statement M
-date_at_spec =
-    tie.close (tie.spec mul_year div_year add_year years_before_requires sub_date_in date_in_requires returns)
+    rw ((year s).value, (rest c.before).value) at c.date_in.ensures ∙ sym (date_of_count_is (n s) (n_lt s))

@@ -12,8 +12,7 @@ use mir.Facts.{to_z-of_z}
 use borrow.Author.Tests.{eq-eqb, ne_eqb}
 use Rattle.words.specs.Fits.{quot_fits}
 use Rattle.rules.specs.Years.{leap}
-use Rattle.calendar.proofs.years.leap.Statement.{statement}
-use Rattle.calendar.proofs.years.leap.Tie as tie
+use Rattle.calendar.proofs.years.leap.Goals as goal
 
 bits_of : (r : ℕ) → r < 400 → of_z w64 (neg_ℤ (pos r)) ≡ 0 → r ≡ 0
 bits_of zero h e = refl
@@ -27,17 +26,17 @@ rem_nought : (z : ℤ) (d : ℕ) → nat_abs z % d ≡ 0 → of_z w64 (rem_z z (
 rem_nought (pos n) d e = e
 rem_nought (negsuc n) d e = rw e
 
-year_is : (c : tie.Start) → to_z w64 (of_z w64 c.args.year) ≡ c.args.year
+year_is : (c : goal.Start) → to_z w64 (of_z w64 c.args.year) ≡ c.args.year
 year_is c = to_z-of_z c.ranges.year
 
-asked : (c : tie.Start) (d : ℕ) → 0 < d → (0 < d) × SFits w64 (quot_z (to_z w64 (of_z w64 c.args.year)) (pos d))
+asked : (c : goal.Start) (d : ℕ) → 0 < d → (0 < d) × SFits w64 (quot_z (to_z w64 (of_z w64 c.args.year)) (pos d))
 asked c d p = (p, rw (year_is c) (quot_fits c.args.year (pos d) c.ranges.year (record { lt = lt→ltb 0 d p })))
 
-rem_if1 : tie.Need-nonzero-rem-if1
-rem_if1 c = asked c 4 (lit< tt)
+pub nonzero_rem-year : goal.nonzero_rem-year
+nonzero_rem-year c = asked c 4 (lit< tt)
 
 -- the year is divisible by d, or it is not
-module _ (c : tie.Start) (d : ℕ) (p : 0 < d) (q : d ≤ 400) where
+module _ (c : goal.Start) (d : ℕ) (p : 0 < d) (q : d ≤ 400) where
   divides : of_z w64 (rem_z (to_z w64 (of_z w64 c.args.year)) (pos d)) ≡ 0 → nat_abs c.args.year % d ≡ 0
   divides e = nought_rem c.args.year d p q (rw (year_is c) at e)
 
@@ -45,44 +44,41 @@ module _ (c : tie.Start) (d : ℕ) (p : 0 < d) (q : d ≤ 400) where
       → ⊥
   divides_not f e = f (rw (year_is c) (rem_nought c.args.year d e))
 
-returns : tie.Need-returns
+pub returns-then-year-ne0 : goal.returns-then-year-ne0
 unfolding leap
-returns c = let a = ne_eqb _ _ (divides_not c.before 4 (lit< tt) (lit≤ tt) c.if1.true) in rw a
+returns-then-year-ne0 c = let a = ne_eqb _ _ (divides_not c.before 4 (lit< tt) (lit≤ tt) c.if-year-ne0.true) in rw a
 
-rem_if2 : tie.Need-nonzero-rem-if2
-rem_if2 c = asked c.before 100 (lit< tt)
+pub nonzero_rem-year-2 : goal.nonzero_rem-year-2
+nonzero_rem-year-2 c = asked c.before 100 (lit< tt)
 
-returns_2 : tie.Need-returns-2
+pub returns-then-year-ne0-2 : goal.returns-then-year-ne0-2
 unfolding leap
-returns_2 c =
+returns-then-year-ne0-2 c =
     let s = c.before.before in
     rw (
-      eq-eqb _ _ (divides s 4 (lit< tt) (lit≤ tt) c.before.if1.false),
-      ne_eqb _ _ (divides_not s 100 (lit< tt) (lit≤ tt) c.if2.true),
+      eq-eqb _ _ (divides s 4 (lit< tt) (lit≤ tt) c.before.if-year-ne0.false),
+      ne_eqb _ _ (divides_not s 100 (lit< tt) (lit≤ tt) c.if-year-ne0-2.true),
     )
 
-rem_if3 : tie.Need-nonzero-rem-if3
-rem_if3 c = asked c.before.before 400 (lit< tt)
+pub nonzero_rem-year-3 : goal.nonzero_rem-year-3
+nonzero_rem-year-3 c = asked c.before.before 400 (lit< tt)
 
-returns_3 : tie.Need-returns-3
+pub returns-then-year-ne0-3 : goal.returns-then-year-ne0-3
 unfolding leap
-returns_3 c =
+returns-then-year-ne0-3 c =
     let s = c.before.before.before in
     rw (
-      eq-eqb _ _ (divides s 4 (lit< tt) (lit≤ tt) c.before.before.if1.false),
-      eq-eqb _ _ (divides s 100 (lit< tt) (lit≤ tt) c.before.if2.false),
-      ne_eqb _ _ (divides_not s 400 (lit< tt) (lit≤ tt) c.if3.true),
+      eq-eqb _ _ (divides s 4 (lit< tt) (lit≤ tt) c.before.before.if-year-ne0.false),
+      eq-eqb _ _ (divides s 100 (lit< tt) (lit≤ tt) c.before.if-year-ne0-2.false),
+      ne_eqb _ _ (divides_not s 400 (lit< tt) (lit≤ tt) c.if-year-ne0-3.true),
     )
 
-returns_4 : tie.Need-returns-4
+pub returns-else-year-ne0-3 : goal.returns-else-year-ne0-3
 unfolding leap
-returns_4 c =
+returns-else-year-ne0-3 c =
     let s = c.before.before.before in
     rw (
-      eq-eqb _ _ (divides s 4 (lit< tt) (lit≤ tt) c.before.before.if1.false),
-      eq-eqb _ _ (divides s 100 (lit< tt) (lit≤ tt) c.before.if2.false),
-      eq-eqb _ _ (divides s 400 (lit< tt) (lit≤ tt) c.if3.false),
+      eq-eqb _ _ (divides s 4 (lit< tt) (lit≤ tt) c.before.before.if-year-ne0.false),
+      eq-eqb _ _ (divides s 100 (lit< tt) (lit≤ tt) c.before.if-year-ne0-2.false),
+      eq-eqb _ _ (divides s 400 (lit< tt) (lit≤ tt) c.if-year-ne0-3.false),
     )
-
-pub leap_spec : {M : Type 1} → statement M
-leap_spec = tie.close (tie.spec rem_if1 returns rem_if2 returns_2 rem_if3 returns_3 returns_4)

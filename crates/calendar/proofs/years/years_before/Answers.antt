@@ -6,10 +6,9 @@ use lib.IntN.{pos, nat_abs}
 use Rattle.words.specs.Holds.{Holds, bits, ◌-ʷ◌, ◌*ʷ◌, ◌/ʷ◌, lit, got, add, add_ok, sub_ok, sub_nat, mul, mul_ok}
 use Rattle.words.specs.Holds.{div_lit, div_ok}
 use Rattle.laws.specs.Calendar.{years_before}
-use Rattle.calendar.proofs.years.years_before.Statement.{statement}
-use Rattle.calendar.proofs.years.years_before.Tie as tie
+use Rattle.calendar.proofs.years.years_before.Goals as goal
 
-module _ (c : tie.Start) where
+module _ (c : goal.Start) where
   abbrev y : ℕ
   y = nat_abs c.args.year
 
@@ -28,24 +27,21 @@ module _ (c : tie.Start) where
   leaps : Holds ((bits c.args.year -ʷ 1969) /ʷ 4) (pos ((y - 1969) / 4)) (2099 / 4)
   leaps = div_lit 4 quarters tt tt tt
 
-returns : tie.Need-returns
+pub returns : goal.returns
 returns c = (add (days c) (leaps c) tt).value ∙ ap pos
     (omega (arith, years_before (y c - 1972) (omega (arith, c.requires.at_most)), c.requires.at_least))
 
-sub_result : tie.Need-overflow-sub-result
-sub_result c = sub_ok (year c) (lit 1972 tt) tt
+pub overflow_sub-result : goal.overflow_sub-result
+overflow_sub-result c = sub_ok (year c) (lit 1972 tt) tt
 
-mul_result : tie.Need-overflow-mul-result
-mul_result c = mul_ok (lit 365 tt) (years c) tt
+pub overflow_mul-result : goal.overflow_mul-result
+overflow_mul-result c = mul_ok (lit 365 tt) (years c) tt
 
-sub_result_2 : tie.Need-overflow-sub-result-2
-sub_result_2 c = sub_ok (year c) (lit 1969 tt) tt
+pub overflow_sub-result-2 : goal.overflow_sub-result-2
+overflow_sub-result-2 c = sub_ok (year c) (lit 1969 tt) tt
 
-div_result : tie.Need-nonzero-div-result
-div_result c = div_ok (quarters c) (lit 4 tt) (record { lt = tt }) tt
+pub nonzero_div-result : goal.nonzero_div-result
+nonzero_div-result c = div_ok (quarters c) (lit 4 tt) (record { lt = tt }) tt
 
-add_result : tie.Need-overflow-add-result
-add_result c = add_ok (days c) (leaps c) tt
-
-pub years_before_spec : {M : Type 1} → statement M
-years_before_spec = tie.close (tie.spec sub_result mul_result sub_result_2 div_result add_result returns)
+pub overflow_add-result : goal.overflow_add-result
+overflow_add-result c = add_ok (days c) (leaps c) tt

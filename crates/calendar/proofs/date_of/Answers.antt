@@ -12,26 +12,25 @@ use Rattle.rules.specs.declared.Dated.{Dated}
 use Rattle.laws.specs.Units.{between_parts}
 use Rattle.laws.specs.Ranges.{Between, le_of_sizes, between_iff}
 use Rattle.laws.specs.DayNumbers.{InSpan, in_span, number_le, date_of_number_is}
-use Rattle.calendar.proofs.date_of.Statement.{statement}
-use Rattle.calendar.proofs.date_of.Tie as tie
+use Rattle.calendar.proofs.date_of.Goals as goal
 
-is_between_requires : tie.Need-is-between-requires
-is_between_requires c κs = search rules
+pub is_between-requires : goal.is_between-requires
+is_between-requires c = search rules
 
-returns : tie.Need-returns
+pub returns-then-not-is_between : goal.returns-then-not-is_between
 unfolding date_of number_refused
-returns c =
+returns-then-not-is_between c =
     let past = c.before in
-    rw (sym (rw (to_z-of_z past.before.ranges.n) at past.is_between.ensures) ∙ not-true _ c.if1.true)
+    rw (sym (rw (to_z-of_z past.before.ranges.n) at past.is_between.ensures) ∙ c.if-not-is_between.true)
 
-module _ (c : tie.Else1) where
+module _ (c : goal.Else-not-is_between) where
   abbrev n : ℤ
   n = c.before.before.args.n
 
   passed : Between (neg_ℤ (pos 10227)) (pos 36524) n
   passed =
       let tested = rw (to_z-of_z c.before.before.ranges.n) at c.before.is_between.ensures in
-      let parts = between_parts _ _ n (sym tested ∙ not-false _ c.if1.false) in
+      let parts = between_parts _ _ n (sym tested ∙ c.if-not-is_between.false) in
       record {
         above = le_of_sizes (neg_ℤ (pos 10227)) n (omega (arith, parts.0));
         below = le_of_sizes n (pos 36524) (omega (arith, parts.1));
@@ -46,19 +45,16 @@ module _ (c : tie.Else1) where
   count : Holds (bits n +ʷ 10227) (n +ℤ pos 10227) (36524 + 10227)
   count = add number (lit 10227 tt) tt
 
-add_date_at : tie.Need-overflow-add-date-at
-add_date_at c = add_ok (number c) (lit 10227 tt) tt
+pub overflow_add-n : goal.overflow_add-n
+overflow_add-n c = add_ok (number c) (lit 10227 tt) tt
 
-date_at_requires : tie.Need-date-at-requires
-date_at_requires c κs =
+pub date_at-requires : goal.date_at-requires
+date_at-requires c =
     rw (count c).value
     (record { is = (spanned c).is; at_least = omega arith; at_most = omega (arith, (spanned c).lt) })
 
-returns_2 : tie.Need-returns-2
+pub returns : goal.returns
 unfolding date_of number_refused
-returns_2 c =
+returns c =
     rw ((between_iff _ _ _).1 (passed c.before))
     (ap Dated.On (rw (count c.before).value at c.date_at.ensures ∙ sym (date_of_number_is _)))
-
-pub date_of_spec : {M : Type 1} → statement M
-date_of_spec = tie.close (tie.spec is_between_requires returns add_date_at date_at_requires returns_2)
