@@ -11,10 +11,12 @@ use Rattle.rules.specs.Utc.{days_of_span}
 use Rattle.laws.specs.Days.{ms_before, ms_before_grows, ms_before_end, OfDay, reached, not_reached}
 use Rattle.laws.specs.Stretch.{count_of, counts, count_is, stretch_le}
 use Rattle.laws.specs.Utc.{of_tt}
-use Rattle.utc.proofs.span.days_of_span.Statement.{statement}
+use Rattle.utc.proofs.span.days_of_span.Goals as goal
+use Rattle.utc.proofs.span.days_of_span.Lts as lts
+use Rattle.utc.proofs.span.days_of_span.Reads as reads
 use Rattle.utc.proofs.span.days_of_span.Tie as tie
 
-module _ (c : tie.Start) where
+module _ (c : goal.Start) where
   abbrev j : ℕ
   j = count_of c.args.tt
 
@@ -38,40 +40,37 @@ module _ (c : tie.Start) where
   day : OfDay j (days_of_span c.args.tt)
   day = (of_tt c.args.tt c.requires).day
 
-before : (c : tie.After-ms-before)
-    → Holds (bits c.ms_before_lem.result) (pos (ms_before (most c.before))) 4039372827000
+before : (c : lts.After-ms_before tie.the-claims reads.Pre reads.Post)
+    → Holds (bits c.ms_before.result) (pos (ms_before (most c.before))) 4039372827000
 before c =
     let s = c.before in
-    got (rw (quotient s).value at c.ms_before_lem.ensures)
+    got (rw (quotient s).value at c.ms_before.ensures)
     (omega (arith, ms_before_end, ms_before_grows (most s) 46752 (quotient s).size)) tt
 
-returns : tie.Need-returns
-returns c =
+pub returns-then-ms_before-count : goal.returns-then-ms_before-count
+returns-then-ms_before-count c =
     let s = c.before.before in
-    let t = rw ((before c.before).value, (sum s).value) at c.if1.true in
+    let t = rw ((before c.before).value, (sum s).value) at c.if-ms_before-count.true in
     let l = le_z_true (pos (ms_before (most s))) (pos (j s)) t in
     (quotient s).value ∙ ap pos (sym (reached (j s) (days_of_span s.args.tt) (day s) (omega arith)))
 
-returns_2 : tie.Need-returns-2
-returns_2 c =
+pub returns : goal.returns
+returns c =
     let s = c.before.before in
-    let t = rw ((before c.before).value, (sum s).value) at c.if1.false in
+    let t = rw ((before c.before).value, (sum s).value) at c.if-ms_before-count.false in
     let l = le_z_false (pos (ms_before (most s))) (pos (j s)) t in
     let q = not_reached (j s) (days_of_span s.args.tt) (day s) (omega arith) in
     (sub_nat (quotient s) (lit 1 tt) (omega arith) tt).value ∙ ap pos (omega arith)
 
-add_count : tie.Need-overflow-add-count
-add_count c = add_ok (tt_is c) (lit 883655957816 tt) tt
+pub overflow_add-count : goal.overflow_add-count
+overflow_add-count c = add_ok (tt_is c) (lit 883655957816 tt) tt
 
-div_most : tie.Need-nonzero-div-most
-div_most c = div_ok (sum c) (lit 86400000 tt) (lt_z_yes tt) tt
+pub nonzero_div-most : goal.nonzero_div-most
+nonzero_div-most c = div_ok (sum c) (lit 86400000 tt) (lt_z_yes tt) tt
 
-ms_before_requires : tie.Need-ms-before-requires
-ms_before_requires c κs =
+pub ms_before-requires : goal.ms_before-requires
+ms_before-requires c =
     rw (quotient c).value (record { is = refl; at_least = omega arith; at_most = (quotient c).size })
 
-sub_result : tie.Need-overflow-sub-result
-sub_result c = sub_ok (quotient c.before.before) (lit 1 tt) tt
-
-pub days_of_span_spec : {M : Type 1} → statement M
-days_of_span_spec = tie.close (tie.spec add_count div_most ms_before_requires returns sub_result returns_2)
+pub overflow_sub-result : goal.overflow_sub-result
+overflow_sub-result c = sub_ok (quotient c.before.before) (lit 1 tt) tt
