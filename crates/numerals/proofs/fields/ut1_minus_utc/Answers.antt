@@ -13,35 +13,34 @@ use Rattle.words.specs.Fits.{fits32}
 use Rattle.rules.specs.Numerals.{unsigned, of_number}
 use Rattle.laws.specs.Lines.{of_digits_le, most_le}
 use Rattle.numerals.specs.Digits.{few_spellable}
-use Rattle.numerals.proofs.fields.ut1_minus_utc.Statement.{statement}
+use Rattle.numerals.proofs.fields.ut1_minus_utc.Goals as goal
+use Rattle.numerals.proofs.fields.ut1_minus_utc.Lts as lts
+use Rattle.numerals.proofs.fields.ut1_minus_utc.Reads as reads
 use Rattle.numerals.proofs.fields.ut1_minus_utc.Tie as tie
 
-digits_le : (c : tie.Start) → length (unsigned c.args.s.now) ≤ 4
+digits_le : (c : lts.Start tie.the-claims reads.Pre reads.Post) → length (unsigned c.args.s.now) ≤ 4
 unfolding of_number
 digits_le c = (of_digits_le 4 (unsigned c.args.s.now) c.requires).1
 
-signed_requires : tie.Need-signed-requires
-signed_requires c κs = few_spellable _ (omega (arith, digits_le c.before))
+pub signed-requires : goal.signed-requires
+signed-requires c = few_spellable _ (omega (arith, digits_le c.before.before))
 
-module _ (c : tie.After-signed) where
+module _ (c : lts.After-signed tie.the-claims reads.Pre reads.Post) where
   abbrev r : ℤ
   r = c.signed.result
 
-  abbrev start : tie.Start
+  abbrev start : lts.Start tie.the-claims reads.Pre reads.Post
   start = c.before.before
 
   r_is : to_z w64 (bits r) ≡ r
-  r_is = to_z-of_z {w = w64} (sfits_of c.signed.type-inv)
+  r_is = to_z-of_z {w = w64} (sfits_of c.signed.type_inv)
 
   fits : SFits w32 (to_z w64 (bits r))
   fits = rw r_is (fits32 r
       (omega (arith, c.signed.ensures.1, most_le (length (unsigned start.args.s.now)) (digits_le start))))
 
-cast_result : tie.Need-overflow-cast-result
-cast_result c = fits c
+pub overflow_cast-result : goal.overflow_cast-result
+overflow_cast-result c = fits c.before
 
-returns : tie.Need-returns
-returns c = to_z-of_z (fits c) ∙ r_is c ∙ c.signed.ensures.0
-
-pub ut1_minus_utc_spec : {M : Type 1} → statement M
-ut1_minus_utc_spec = tie.close (tie.spec signed_requires cast_result returns)
+pub returns : goal.returns
+returns c = to_z-of_z (fits c.before) ∙ r_is c.before ∙ c.before.signed.ensures.0

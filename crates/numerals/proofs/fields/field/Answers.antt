@@ -14,35 +14,37 @@ use Rattle.words.specs.Fits.{fits32}
 use Rattle.rules.specs.Numerals.{field}
 use Rattle.laws.specs.Lines.{most, most_le}
 use Rattle.numerals.specs.Digits.{few_spellable}
-use Rattle.numerals.proofs.fields.field.Statement.{statement}
+use Rattle.numerals.proofs.fields.field.Goals as goal
+use Rattle.numerals.proofs.fields.field.Lts as lts
+use Rattle.numerals.proofs.fields.field.Reads as reads
 use Rattle.numerals.proofs.fields.field.Tie as tie
 
-add_to : tie.Need-overflow-add-to
-add_to c = search rules
+pub overflow_add-to : goal.overflow_add-to
+overflow_add-to c = search rules
 
-sub_spelled : tie.Need-overflow-sub-spelled
-sub_spelled c = search rules
+pub slice_bounds-spelled-count : goal.slice_bounds-spelled-count
+slice_bounds-spelled-count c = search rules
 
-part_spelled_start : tie.Need-slice-bounds-spelled-start
-part_spelled_start c = search rules
+pub slice_bounds-spelled-start : goal.slice_bounds-spelled-start
+slice_bounds-spelled-start c = search rules
 
-part_spelled_end : tie.Need-slice-bounds-spelled-end
-part_spelled_end c = search rules
+pub slice_bounds-spelled-end : goal.slice_bounds-spelled-end
+slice_bounds-spelled-end c = search rules
 
-spelled_requires : tie.Need-spelled-requires
-spelled_requires c κs = few_spellable _ (search rules)
+pub spelled-requires : goal.spelled-requires
+spelled-requires c = few_spellable _ (search rules)
 
 less : (from count : ℕ) → (from + count) - from ≡ count
 less from count = omega arith
 
-module _ (c : tie.After-spelled) where
+module _ (c : lts.After-spelled tie.the-claims reads.Pre reads.Post) where
   abbrev r : ℤ
   r = c.spelled.result
 
   r_is : to_z w64 (bits r) ≡ r
-  r_is = to_z-of_z {w = w64} (sfits_of c.spelled.type-inv)
+  r_is = to_z-of_z {w = w64} (sfits_of c.spelled.type_inv)
 
-  abbrev a : tie.Start
+  abbrev a : lts.Start tie.the-claims reads.Pre reads.Post
   a = c.before.before.before
 
   abbrev text : List ℕ
@@ -52,19 +54,14 @@ module _ (c : tie.After-spelled) where
   r_le = c.spelled.ensures.1
 
   text_le : length text ≤ 4
-  text_le = simp length-take (omega (arith, a.pre.0))
+  text_le = simp length-take (omega (arith, a.requires.0))
 
   fits : SFits w32 (to_z w64 (bits r))
   fits = rw r_is (fits32 r (omega (arith, r_le, most_le (length text) text_le)))
 
-cast_result : tie.Need-overflow-cast-result
-cast_result c = fits c
+pub overflow_cast-result : goal.overflow_cast-result
+overflow_cast-result c = fits c.before
 
-returns : tie.Need-returns
+pub returns : goal.returns
 unfolding field
-returns c = to_z-of_z (fits c) ∙ r_is c ∙ (rw less at c.spelled.ensures.0)
-
-pub field_spec : {M : Type 1} → statement M
-field_spec =
-    tie.close
-    (tie.spec add_to sub_spelled part_spelled_start part_spelled_end spelled_requires cast_result returns)
+returns c = to_z-of_z (fits c.before) ∙ r_is c.before ∙ (rw less at c.before.spelled.ensures.0)
