@@ -15,13 +15,12 @@ use Rattle.integers.specs.Quotient.{abs_rem}
 use Rattle.words.specs.Holds.{Holds, bits, ◌%ʷ◌, ◌+ʷ◌, ◌-ʷ◌, got, lit, add, add_ok, sub, sub_ok}
 use Rattle.words.specs.Fits.{quot_fits}
 use Rattle.laws.specs.Ranges.{true_not_false}
-use Rattle.decimals.proofs.last_digit.Statement.{statement}
-use Rattle.decimals.proofs.last_digit.Tie as tie
+use Rattle.decimals.proofs.last_digit.Goals as goal
 
 small : (m : ℕ) → m % 10 ≤ 9
 small m = omega arith
 
-module _ (c : tie.Start) where
+module _ (c : goal.Start) where
   abbrev n : ℤ
   n = c.args.n
 
@@ -44,39 +43,35 @@ minus (pos n) e = absurd (omega (arith, ltb-true n 0 e))
 minus (negsuc n) e = eq_of_parts (pos 48 -ℤ negsuc n) (pos (48 + nat_abs (negsuc n)))
     (omega (arith, sub_is (pos 48) (negsuc n)))
 
-byte : (c : tie.Then1) → to_z w64 (48 -ʷ (bits (n c.before) %ʷ 10)) ≡ pos (48 + nat_abs (n c.before) % 10)
+byte : (c : goal.Then-rest-lt0) → to_z w64 (48 -ʷ (bits (n c.before) %ʷ 10)) ≡ pos (48 + nat_abs (n c.before) % 10)
 byte c =
     let s = c.before in
-    let e : lt_z (rem_z (n s) (pos 10)) (pos 0) ≡ true = rw (rest s).value at c.if1.true in
+    let e : lt_z (rem_z (n s) (pos 10)) (pos 0) ≡ true = rw (rest s).value at c.if-rest-lt0.true in
     (sub (lit 48 tt) (rest s) tt).value ∙ minus (rem_z (n s) (pos 10)) e ∙ rw (rest_is s)
 
-returns : tie.Need-returns
-returns c = rw (byte c)
+pub returns-then-rest-lt0 : goal.returns-then-rest-lt0
+returns-then-rest-lt0 c = rw (byte c)
 
-byte_2 : (c : tie.Else1) → to_z w64 (48 +ʷ (bits (n c.before) %ʷ 10)) ≡ pos (48 + nat_abs (n c.before) % 10)
+byte_2 : (c : goal.Else-rest-lt0) → to_z w64 (48 +ʷ (bits (n c.before) %ʷ 10)) ≡ pos (48 + nat_abs (n c.before) % 10)
 byte_2 c =
     let s = c.before in
-    let e : lt_z (rem_z (n s) (pos 10)) (pos 0) ≡ false = rw (rest s).value at c.if1.false in
+    let e : lt_z (rem_z (n s) (pos 10)) (pos 0) ≡ false = rw (rest s).value at c.if-rest-lt0.false in
     (add (lit 48 tt) (rest s) tt).value ∙ plus (rem_z (n s) (pos 10)) e ∙ rw (rest_is s)
 
-returns_2 : tie.Need-returns-2
-returns_2 c = rw (byte_2 c)
+pub returns : goal.returns
+returns c = rw (byte_2 c)
 
-rem_rest : tie.Need-nonzero-rem-rest
-rem_rest c = (lit< tt, rw (n_is c) (quot_fits (n c) (pos 10) c.ranges.n (lt_z_yes tt)))
+pub nonzero_rem-rest : goal.nonzero_rem-rest
+nonzero_rem-rest c = (lit< tt, rw (n_is c) (quot_fits (n c) (pos 10) c.ranges.n (lt_z_yes tt)))
 
-sub_result : tie.Need-overflow-sub-result
-sub_result c = sub_ok (lit 48 tt) (rest c.before) tt
+pub overflow_sub-result : goal.overflow_sub-result
+overflow_sub-result c = sub_ok (lit 48 tt) (rest c.before) tt
 
-cast_result : tie.Need-overflow-cast-result
-cast_result c = rw (byte c) (tt, record { fits = omega (arith, small (nat_abs (n c.before))) })
+pub overflow_cast-result : goal.overflow_cast-result
+overflow_cast-result c = rw (byte c) (tt, record { fits = omega (arith, small (nat_abs (n c.before))) })
 
-add_result : tie.Need-overflow-add-result
-add_result c = add_ok (lit 48 tt) (rest c.before) tt
+pub overflow_add-result : goal.overflow_add-result
+overflow_add-result c = add_ok (lit 48 tt) (rest c.before) tt
 
-cast_result_2 : tie.Need-overflow-cast-result-2
-cast_result_2 c = rw (byte_2 c) (tt, record { fits = omega (arith, small (nat_abs (n c.before))) })
-
-pub last_digit_spec : {M : Type 1} → statement M
-last_digit_spec =
-    tie.close (tie.spec rem_rest sub_result cast_result returns add_result cast_result_2 returns_2)
+pub overflow_cast-result-2 : goal.overflow_cast-result-2
+overflow_cast-result-2 c = rw (byte_2 c) (tt, record { fits = omega (arith, small (nat_abs (n c.before))) })
