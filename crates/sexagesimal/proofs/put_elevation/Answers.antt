@@ -18,38 +18,40 @@ use Rattle.rules.specs.Rounding.{rnd}
 use Rattle.sexagesimal.specs.Sexagesimal.{spaced}
 use Rattle.sexagesimal.specs.Sexagesimal.{sexagesimal, sign_of, elevation}
 use Rattle.sexagesimal.specs.Quotients.{divided_ok, divided_size}
-use Rattle.sexagesimal.proofs.put_elevation.Statement.{statement}
+use Rattle.sexagesimal.proofs.put_elevation.Goals as goal
+use Rattle.sexagesimal.proofs.put_elevation.Lts as lts
+use Rattle.sexagesimal.proofs.put_elevation.Reads as reads
 use Rattle.sexagesimal.proofs.put_elevation.Tie as tie
 
 -- what follows the sign
 abbrev parts : ℤ → List ℕ
 parts z = sexagesimal 2 (nat_abs (rnd z 100000) / 10) 1 (nat_abs (rnd z 100000))
 
-rnd_quotient_requires : tie.Need-rnd-quotient-requires
-rnd_quotient_requires c κs = search rules
+pub rnd_quotient-n-requires : goal.rnd_quotient-n-requires
+rnd_quotient-n-requires c = search rules
 
-slice_write_out : tie.Need-slice-write-out
-slice_write_out c = search rules
+pub bounds-out-at : goal.bounds-out-at
+bounds-out-at c = search rules
 
-sign_of_requires : tie.Need-sign-of-requires
-sign_of_requires c κs = search rules
+pub sign_of-requires : goal.sign_of-requires
+sign_of-requires c = search rules
 
-add_out : tie.Need-overflow-add-out
-add_out c = search rules
+pub overflow_add-out : goal.overflow_add-out
+overflow_add-out c = search rules
 
-slice_write_out_2 : tie.Need-slice-write-out-2
-slice_write_out_2 c =
+pub bounds-out-at-2 : goal.bounds-out-at-2
+bounds-out-at-2 c =
     let s = c.before.before.before in
     omega (arith, s.requires, length-set s.args.out.now s.args.at 32)
 
-div_put_parts : tie.Need-nonzero-div-put-parts
-div_put_parts c = divided_ok c.before.rnd_quotient.result 10 (sfits_of c.before.rnd_quotient.type-inv) (lit< tt)
+pub nonzero_div-n : goal.nonzero_div-n
+nonzero_div-n c = divided_ok c.before.rnd_quotient-n.result 10 (sfits_of c.before.rnd_quotient-n.type_inv) (lit< tt)
 
-add_put_parts : tie.Need-overflow-add-put-parts
-add_put_parts c = search rules
+pub overflow_add-at : goal.overflow_add-at
+overflow_add-at c = search rules
 
-put_parts_requires : tie.Need-put-parts-requires
-put_parts_requires c κs =
+pub put_parts-requires : goal.put_parts-requires
+put_parts-requires c =
     let s = c.before.before.before.before in
     let out = set s.args.out.now s.args.at 32 in (
       lit≤ tt,
@@ -72,21 +74,21 @@ elevation_is : (z : ℤ) → length (elevation z) ≡ suc (length (parts z))
 unfolding elevation
 elevation_is z = refl
 
-module _ (c : tie.After-put-parts) where
-  abbrev start : tie.Start
+module _ (c : lts.After-put_parts tie.the-claims reads.Pre reads.Post tie.handed_clauses) where
+  abbrev start : lts.Start tie.the-claims reads.Pre reads.Post tie.handed_clauses
   start = c.before.before.before.before.before
 
   abbrev angle : ℤ
   angle = start.args.angle
 
   abbrev r : ℤ
-  r = c.before.before.before.rnd_quotient.result
+  r = c.before.before.before.rnd_quotient-n.result
 
   fits : SFits w64 r
-  fits = sfits_of c.before.before.before.rnd_quotient.type-inv
+  fits = sfits_of c.before.before.before.rnd_quotient-n.type_inv
 
   r_is : r ≡ rnd angle 100000
-  r_is = rw (to_z-of_z start.fits.angle) at c.before.before.before.rnd_quotient.ensures
+  r_is = rw (to_z-of_z start.ranges.angle) at c.before.before.before.rnd_quotient-n.ensures
 
   sign_is : c.before.before.sign_of.result ≡ sign_of (rnd angle 100000)
   sign_is = c.before.before.sign_of.ensures ∙ ap sign_of (to_z-of_z fits ∙ r_is)
@@ -98,39 +100,24 @@ module _ (c : tie.After-put-parts) where
       (divided_size r 10 fits (lit< tt) ∙ ap (λ z. nat_abs z / 10) r_is)
       ∙ ap (λ z. sexagesimal 2 (nat_abs (rnd angle 100000) / 10) 1 (nat_abs z)) (to_z-of_z fits ∙ r_is)
 
-  bytes : c.put-parts.new.1.1.1.1.1.0
+  bytes : c.put_parts.new.out
       ≡ sets start.args.out.now start.args.at (spaced (elevation angle))
   unfolding elevation
   bytes =
-      (rw (two_more start.args.at, add-one start.args.at) at c.put-parts.ensures.1)
+      (rw (two_more start.args.at, add-one start.args.at) at c.put_parts.ensures.out_after)
       ∙ ap (λ l. sets (set (set start.args.out.now start.args.at 32) (suc start.args.at)
       c.before.before.sign_of.result) (suc (suc start.args.at)) l) row_is
       ∙ ap (λ b. sets (set (set start.args.out.now start.args.at 32) (suc start.args.at) b)
       (suc (suc start.args.at)) (parts angle)) sign_is
 
-  end : c.put-parts.result ≡ (start.args.at + 2) + length (parts angle)
-  end = c.put-parts.ensures.0 ∙ ap (λ l. (start.args.at + 2) + length l) row_is
+  end : c.put_parts.result ≡ (start.args.at + 2) + length (parts angle)
+  end = c.put_parts.ensures.value ∙ ap (λ l. (start.args.at + 2) + length l) row_is
 
-same_length : tie.Need-same-length
-same_length c =
-    let x = c.before.before in
+pub shape_of-out : goal.shape_of-out
+shape_of-out c =
+    let x = c.before.before.before in
     let s = start x in
     ap length (bytes x) ∙ length-sets s.args.out.now s.args.at (spaced (elevation s.args.angle))
 
-returns : tie.Need-returns
-returns c = let x = c.before.before in (omega (arith, end x, elevation_is (start x).args.angle), bytes x)
-
-pub put_elevation_spec : {M : Type 1} → statement M
-put_elevation_spec =
-    tie.close
-    (tie.spec
-    rnd_quotient_requires
-    slice_write_out
-    sign_of_requires
-    add_out
-    slice_write_out_2
-    div_put_parts
-    add_put_parts
-    put_parts_requires
-    same_length
-    returns)
+pub returns : goal.returns
+returns c = let x = c.before.before.before in record { value = omega (arith, end x, elevation_is (start x).args.angle); out_after = bytes x }
