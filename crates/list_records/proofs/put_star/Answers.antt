@@ -10,27 +10,26 @@ use Rattle.laws.specs.ByteByByte.{low_bytes}
 use Rattle.stars.specs.Numbers.{star_of}
 use Rattle.list_bytes.specs.Puts.{put, put_put}
 use Rattle.list_records.specs.Records.{pair_length, low_pairs}
-use Rattle.list_records.proofs.put_star.Statement.{statement}
-use Rattle.list_records.proofs.put_star.Tie as tie
+use Rattle.list_records.proofs.put_star.Goals as goal
 
-put_pair_requires : tie.Need-put-pair-requires
-put_pair_requires c κs = search rules
+pub put_pair-requires : goal.put_pair-requires
+put_pair-requires c = search rules
 
-add_put_pair : tie.Need-overflow-add-put-pair
-add_put_pair c = search rules
+pub overflow_add-at : goal.overflow_add-at
+overflow_add-at c = search rules
 
-put_pair_requires_2 : tie.Need-put-pair-requires-2
-put_pair_requires_2 c κs = search rules
+pub put_pair-requires-2 : goal.put_pair-requires-2
+put_pair-requires-2 c = search rules
 
-same_length : tie.Need-same-length
-same_length c = search rules
+pub shape_of-room : goal.shape_of-room
+shape_of-room c = search rules
 
-returns : tie.Need-returns
+pub returns : goal.returns
 returns c =
-    let start = c.before.before.before.before.before.before.before.before.before in
+    let start = c.before.before.before.before.before.before.before.before.before.before in
     let a = start.args in
-    let one = c.before.before.before.before.before.before.put-pair in
-    let two = c.before.before.put-pair2 in
+    let one = c.put_pair in
+    let two = c.put_pair-2 in
     let u = low_bytes 8 a.ra ++ low_bytes 8 a.declination in
     let v = low_bytes 4 a.motion ++ low_bytes 4 a.other in
     let ra = held64 a.ra start.ranges.ra.sfits in
@@ -40,12 +39,8 @@ returns c =
     let next : a.at + length u ≡ a.at + 16 = ap (λ k. a.at + k) (pair_length 8 a.ra a.declination) in
     let fit : a.at + (length u + length v) ≤ length a.room.now =
     omega (arith, start.requires, pair_length 8 a.ra a.declination, pair_length 4 a.motion a.other) in
-    two.ensures ∙ (λ i. put one.new.0 (a.at + 16) (low_bytes 4 (motion i) ++ low_bytes 4 (other i)))
+    two.ensures ∙ (λ i. put one.new.room (a.at + 16) (low_bytes 4 (motion i) ++ low_bytes 4 (other i)))
     ∙ ap (λ (r : List ℕ). put r (a.at + 16) v)
     (one.ensures ∙ (λ i. put a.room.now a.at (low_bytes 8 (ra i) ++ low_bytes 8 (declination i))))
     ∙ put_put a.room.now a.at (a.at + 16) u v next fit
     ∙ ap (put a.room.now a.at) (low_pairs (star_of a.ra a.declination a.motion a.other))
-
-pub put_star_spec : {M : Type 1} → statement M
-put_star_spec =
-    tie.close (tie.spec put_pair_requires add_put_pair put_pair_requires_2 same_length returns)

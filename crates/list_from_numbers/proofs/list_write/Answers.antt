@@ -19,7 +19,9 @@ use Rattle.laws.specs.ListWriting.{numbers_refused_5, numbers_refused_11, number
 use Rattle.laws.specs.ListWriting.{row_uneven, row_even, room_many, room_small, room_enough, number_count}
 use Rattle.list_bytes.specs.Puts.{put}
 use Rattle.list_records.specs.Records.{low_records_lem, file_put}
-use Rattle.list_from_numbers.proofs.list_write.Statement.{statement}
+use Rattle.list_from_numbers.proofs.list_write.Goals as goal
+use Rattle.list_from_numbers.proofs.list_write.Lts as lts
+use Rattle.list_from_numbers.proofs.list_write.Reads as reads
 use Rattle.list_from_numbers.proofs.list_write.Tie as tie
 
 -- a refusal: its answer, and the room as it was
@@ -35,35 +37,35 @@ writes : (numbers : List ℤ) (room after : List ℕ)
 unfolding room_after_numbers leaving
 writes numbers room after e f = rw e f
 
-any_refused_requires : tie.Need-any-refused-requires
-any_refused_requires c κs = search rules
+pub any_refused-requires : goal.any_refused-requires
+any_refused-requires c = search rules
 
-tested : (c : tie.After-any-refused) → c.any-refused.result ≡ any_refused
-    (number_stars c.before.before.args.numbers.now)
+tested : (c : lts.After-any_refused tie.the-claims reads.Pre reads.Post) → c.any_refused.result ≡ any_refused
+    (number_stars c.args.numbers.now)
 unfolding number_stars count_from
-tested c = c.any-refused.ensures
+tested c = c.any_refused.ensures
 
-returns : tie.Need-returns
-returns c =
-    let a = c.before.before.before.args in
+pub returns-then-any_refused : goal.returns-then-any_refused
+returns-then-any_refused c =
+    let a = c.args in
     refuses a.numbers.now a.room.now Refusal.Star
-    (numbers_refused_5 a.numbers.now a.room.now (sym (tested c.before) ∙ c.if1.true))
+    (numbers_refused_5 a.numbers.now a.room.now (sym (tested c.before.before) ∙ c.if-any_refused.true))
 
-module _ (c : tie.Else1) where
-  abbrev start : tie.Start
+module _ (c : lts.Else1 tie.the-claims reads.Pre reads.Post) where
+  abbrev start : lts.Start tie.the-claims reads.Pre reads.Post
   start = c.before.before.before
 
   accepted : any_refused (number_stars start.args.numbers.now) ≡ false
-  accepted = sym (tested c.before) ∙ c.if1.false
+  accepted = sym (tested c.before) ∙ c.if-any_refused.false
 
-returns_2 : tie.Need-returns-2
-returns_2 c =
-    let a = (start c.before).args in
+pub returns-then-numbers-ne0 : goal.returns-then-numbers-ne0
+returns-then-numbers-ne0 c =
+    let a = (start c.before.before).args in
     refuses a.numbers.now a.room.now Refusal.Room
-    (numbers_refused_11 a.numbers.now a.room.now (accepted c.before)
-    (row_uneven a.numbers.now (length a.room.now) c.if2.true))
+    (numbers_refused_11 a.numbers.now a.room.now (accepted c.before.before)
+    (row_uneven a.numbers.now (length a.room.now) c.if-numbers-ne0.true))
 
-module _ (c : tie.Else2) where
+module _ (c : lts.Else2 tie.the-claims reads.Pre reads.Post) where
   abbrev row_at : List ℤ
   row_at = (start c.before).args.numbers.now
 
@@ -72,60 +74,60 @@ module _ (c : tie.Else2) where
 
   even : row_refused row_at (length room_at) ≡ room_refused (length row_at / 4) (length room_at)
   unfolding count_from
-  even = row_even row_at (length room_at) c.if2.false
+  even = row_even row_at (length room_at) c.if-numbers-ne0.false
 
-returns_3 : tie.Need-returns-3
-returns_3 c =
-    let a = (start c.before.before).args in
-    refuses a.numbers.now a.room.now Refusal.Room
-    (numbers_refused_11 a.numbers.now a.room.now (accepted c.before.before)
-    (even c.before ∙ room_many (length a.numbers.now / 4) (length a.room.now) c.if3.true))
-
-mul_if4 : tie.Need-overflow-mul-if4
-mul_if4 c = search rules
-
-add_if4 : tie.Need-overflow-add-if4
-add_if4 c = search rules
-
-returns_4 : tie.Need-returns-4
-unfolding file_length
-returns_4 c =
+pub returns-then-count-gt-MOST_RECORDS : goal.returns-then-count-gt-MOST_RECORDS
+returns-then-count-gt-MOST_RECORDS c =
     let a = (start c.before.before.before).args in
     refuses a.numbers.now a.room.now Refusal.Room
     (numbers_refused_11 a.numbers.now a.room.now (accepted c.before.before.before)
-    (even c.before.before
-    ∙ room_small (length a.numbers.now / 4) (length a.room.now) c.before.if3.false c.if4.true))
+    (even c.before.before ∙ room_many (length a.numbers.now / 4) (length a.room.now) c.if-count-gt-MOST_RECORDS.true))
+
+pub overflow_mul-count : goal.overflow_mul-count
+overflow_mul-count c = search rules
+
+pub overflow_add-count : goal.overflow_add-count
+overflow_add-count c = search rules
+
+pub returns-then-room-count : goal.returns-then-room-count
+unfolding file_length
+returns-then-room-count c =
+    let a = (start c.before.before.before.before).args in
+    refuses a.numbers.now a.room.now Refusal.Room
+    (numbers_refused_11 a.numbers.now a.room.now (accepted c.before.before.before.before)
+    (even c.before.before.before
+    ∙ room_small (length a.numbers.now / 4) (length a.room.now) c.if-count-gt-MOST_RECORDS.false c.if-room-count.true))
 
 -- nothing is refused
-module _ (c : tie.Else4) where
-  abbrev even_at : tie.Else2
+module _ (c : lts.Else4 tie.the-claims reads.Pre reads.Post) where
+  abbrev even_at : lts.Else2 tie.the-claims reads.Pre reads.Post
   even_at = c.before.before
 
   fits : row_refused (row_at even_at) (length (room_at even_at)) ≡ false
   unfolding file_length
   fits =
       even even_at
-      ∙ room_enough (length (row_at even_at) / 4) (length (room_at even_at)) c.before.if3.false c.if4.false
+      ∙ room_enough (length (row_at even_at) / 4) (length (room_at even_at)) c.if-count-gt-MOST_RECORDS.false c.if-room-count.false
 
-put_stars_requires : tie.Need-put-stars-requires
-put_stars_requires c κs = search rules
+pub put_stars-requires : goal.put_stars-requires
+put_stars-requires c = search rules
 
-put_head_requires : tie.Need-put-head-requires
-put_head_requires c κs = search rules
+pub put_head-requires : goal.put_head-requires
+put_head-requires c = search rules
 
-mul_t4 : tie.Need-overflow-mul-t4
-mul_t4 c = search rules
+pub overflow_mul-result : goal.overflow_mul-result
+overflow_mul-result c = search rules
 
-add_t7 : tie.Need-overflow-add-t7
-add_t7 c = search rules
+pub overflow_add-result : goal.overflow_add-result
+overflow_add-result c = search rules
 
-same_length : tie.Need-same-length
-same_length c = search rules
+pub shape_of-room : goal.shape_of-room
+shape_of-room c = search rules
 
-returns_5 : tie.Need-returns-5
+pub returns : goal.returns
 unfolding file_length count_from number_stars
-returns_5 c =
-    let head-put = c.before.before in
+returns c =
+    let head-put = c.before.before.before in
     let stars-put = head-put.before.before.before.before in
     let else = stars-put.before.before in
     let row = row_at (even_at else) in
@@ -133,28 +135,10 @@ returns_5 c =
     let none-refused = accepted (even_at else).before in
     let answer = numbers_counted row room none-refused (fits else) in (
       sym answer,
-      writes row room head-put.put_head.new.0 answer
+      writes row room head-put.put_head.new.room answer
           (head-put.put_head.ensures
           ∙ ap (λ r. put r 0 (head_of (count_from row)))
-          (stars-put.put-stars.ensures
+          (stars-put.put_stars.ensures
           ∙ ap (put room 7) (low_records_lem (number_stars row) (all_fit (number_stars row) none-refused)))
-          ∙ file_put (number_stars row) room (count_from row) (number_count row) else.if4.false),
+          ∙ file_put (number_stars row) room (count_from row) (number_count row) else.if-room-count.false),
     )
-
-pub list_write_spec : {M : Type 1} → statement M
-list_write_spec =
-    tie.close
-    (tie.spec
-    any_refused_requires
-    returns
-    returns_2
-    returns_3
-    mul_if4
-    add_if4
-    returns_4
-    put_stars_requires
-    put_head_requires
-    mul_t4
-    add_t7
-    same_length
-    returns_5)
