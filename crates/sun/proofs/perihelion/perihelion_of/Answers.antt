@@ -5,18 +5,17 @@ use mir.Syntax.{w64}
 use mir.Val.{to_z, of_z}
 use Rattle.rules.specs.Sun.{perihelion}
 use Rattle.polynomials.proofs.Held.{instant_held}
-use Rattle.sun.proofs.perihelion.perihelion_of.Statement.{statement}
+use Rattle.sun.proofs.perihelion.perihelion_of.Goals as goal
+use Rattle.sun.proofs.perihelion.perihelion_of.Lts as lts
 use Rattle.sun.proofs.perihelion.perihelion_of.Tie as tie
+use Rattle.sun.proofs.perihelion.perihelion_of.Reads as reads
 
-t_held : (c : tie.Start) → to_z w64 (of_z w64 c.args.t.0) ≡ c.args.t.0
+t_held : (c : lts.Start tie.the-claims reads.Pre reads.Post) → to_z w64 (of_z w64 c.args.t.0) ≡ c.args.t.0
 t_held c = instant_held c.args.t.0 c.requires
 
-quadratic_requires : tie.Need-quadratic-requires
-quadratic_requires c κs = search rules
+pub quadratic-requires : goal.quadratic-requires
+quadratic-requires c = search rules
 
-returns : tie.Need-returns
+pub returns : goal.returns
 unfolding perihelion
 returns c = search rules ∙ simp t_held at c.quadratic.ensures
-
-pub perihelion_of_spec : {M : Type 1} → statement M
-perihelion_of_spec = tie.close (tie.spec quadratic_requires returns)
