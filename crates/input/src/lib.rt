@@ -12,7 +12,7 @@ use std::io;
 
 // What a reader leaves: how many bytes stand at the front of the room, and whether all could be
 // read. Where a read fails, none.
-#[derive(Drop)]
+#[derive(Clone, Copy)]
 pub struct Read {
     pub length: usize,
     pub is_read: bool,

@@ -15,7 +15,7 @@ use std::io;
 use std::io::Read;
 
 // What a turn leaves: the start of the line that its read broke off in, and whether to go on.
-#[derive(Drop)]
+#[derive(Clone, Copy)]
 struct Turn {
     start: Start,
     more: bool,
