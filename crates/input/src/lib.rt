@@ -19,7 +19,7 @@ pub struct Read {
 }
 
 // What came of reading: what the reader leaves, and where a read failed, why.
-#[derive(Drop)]
+#[derive(Clone, Copy)]
 pub struct Outcome {
     pub read: Read,
     pub error: Option<io::Error>,

@@ -4,7 +4,7 @@ use std::fmt::Write;
 use std::{fmt, io};
 
 // The words alone, where std adds the error's number after them.
-#[derive(Drop)]
+#[derive(Clone, Copy)]
 pub struct Reason(pub io::Error);
 
 // What std says, or its front.
