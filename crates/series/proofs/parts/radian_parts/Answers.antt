@@ -6,18 +6,14 @@ use Rattle.rules.specs.Circle.{radian_parts}
 use Rattle.laws.specs.Product.{radians_fits}
 use Rattle.laws.specs.UpTo.{up_to_le}
 use Rattle.words.specs.Holds.{Holds, bits, arg}
-use Rattle.series.proofs.parts.radian_parts.Statement.{statement}
-use Rattle.series.proofs.parts.radian_parts.Tie as tie
+use Rattle.series.proofs.parts.radian_parts.Goals as goal
 
-r_holds : (c : tie.Start) → Holds (bits c.args.r) c.args.r half_quarter
+r_holds : (c : goal.Start) → Holds (bits c.args.r) c.args.r half_quarter
 r_holds c = arg c.args.r (up_to_le c.args.r half_quarter c.requires) tt
 
-returns : tie.Need-returns
+pub returns : goal.returns
 unfolding radian_parts
 returns c = search rules ∙ rw (r_holds c.before).value at c.rnd_product_quotient.ensures
 
-rnd_product_quotient_requires : tie.Need-rnd-product-quotient-requires
-rnd_product_quotient_requires c κs = rw (r_holds c).value (radians_fits c.args.r (r_holds c).size)
-
-pub radian_parts_spec : {M : Type 1} → statement M
-radian_parts_spec = tie.close (tie.spec rnd_product_quotient_requires returns)
+pub rnd_product_quotient-requires : goal.rnd_product_quotient-requires
+rnd_product_quotient-requires c = rw (r_holds c).value (radians_fits c.args.r (r_holds c).size)

@@ -13,63 +13,62 @@ use Rattle.words.specs.Holds.{Holds, bits, arg, got}
 use Rattle.rounding.proofs.ByUnit.{product_fits, product_asked, product_rounded}
 use Rattle.roots.specs.NearSquare.{NearSquare}
 use Rattle.series.specs.Given.{PairGiven}
-use Rattle.series.proofs.parts.pair_of_parts.Statement.{statement}
-use Rattle.series.proofs.parts.pair_of_parts.Tie as tie
+use Rattle.series.proofs.parts.pair_of_parts.Goals as goal
 
-x_holds : (c : tie.Start) → Holds (bits c.args.x) c.args.x half_quarter_parts
+x_holds : (c : goal.Start) → Holds (bits c.args.x) c.args.x half_quarter_parts
 x_holds c = arg c.args.x (up_to_le c.args.x half_quarter_parts c.requires) tt
 
-w_holds : (c : tie.After-square-parts) → Holds (bits c.square_parts_lem.result) (square_parts c.before.args.x) unit
+w_holds : (c : goal.After-square_parts-w) → Holds (bits c.square_parts-w.result) (square_parts c.before.args.x) unit
 w_holds c =
     let x = c.before.args.x in
-    got (rw (x_holds c.before).value at c.square_parts_lem.ensures)
+    got (rw (x_holds c.before).value at c.square_parts-w.ensures)
     (up_to_le (square_parts x) unit (square_range x c.before.requires)) tt
 
-p_holds : (c : tie.After-sine-factor)
-    → Holds (bits c.sine-factor.result) (stages (square_parts c.before.before.args.x) sine_row (pos unit)) unit
+p_holds : (c : goal.After-sine_factor)
+    → Holds (bits c.sine_factor.result) (stages (square_parts c.before.before.args.x) sine_row (pos unit)) unit
 p_holds c =
     let x = c.before.before.args.x in
-    got (rw (w_holds c.before).value at c.sine-factor.ensures)
+    got (rw (w_holds c.before).value at c.sine_factor.ensures)
     (up_to_le (stages (square_parts x) sine_row (pos unit)) unit (sine_stages_range x c.before.before.requires)) tt
 
-s_holds : (c : tie.After-rnd-by-unit)
-    → Holds (bits c.rnd_by_unit.result) (raw_sine c.before.before.before.args.x) half_quarter_parts
+s_holds : (c : goal.After-rnd_by_unit-s)
+    → Holds (bits c.rnd_by_unit-s.result) (raw_sine c.before.before.before.args.x) half_quarter_parts
 unfolding raw_sine
 s_holds c =
     let x = c.before.before.before.args.x in
-    got (product_rounded (x_holds c.before.before.before) (p_holds c.before) tt c.rnd_by_unit.ensures)
+    got (product_rounded (x_holds c.before.before.before) (p_holds c.before) tt c.rnd_by_unit-s.ensures)
     (up_to_le (raw_sine x) half_quarter_parts (raw_sine_range x c.before.before.before.requires)) tt
 
-c_holds : (c : tie.After-raw-cosine)
-    → Holds (bits c.raw-cosine.result) (raw_cosine c.before.before.before.before.args.x) unit
+c_holds : (c : goal.After-raw_cosine)
+    → Holds (bits c.raw_cosine.result) (raw_cosine c.before.before.before.before.args.x) unit
 unfolding raw_cosine
 c_holds c =
     let x = c.before.before.before.before.args.x in
-    got (rw (w_holds c.before.before.before).value at c.raw-cosine.ensures)
+    got (rw (w_holds c.before.before.before).value at c.raw_cosine.ensures)
     (up_to_le (raw_cosine x) unit (raw_cosine_range x c.before.before.before.before.requires)) tt
 
-square_parts_requires : tie.Need-square-parts-requires
-square_parts_requires c κs = rw (x_holds c).value (omega (arith, (x_holds c).size))
+pub square_parts-w-requires : goal.square_parts-w-requires
+square_parts-w-requires c = rw (x_holds c).value (omega (arith, (x_holds c).size))
 
-sine_factor_requires : tie.Need-sine-factor-requires
-sine_factor_requires c κs = rw (w_holds c).value (square_range c.before.args.x c.before.requires)
+pub sine_factor-requires : goal.sine_factor-requires
+sine_factor-requires c = rw (w_holds c).value (square_range c.before.args.x c.before.requires)
 
-mul_rnd_by_unit : tie.Need-overflow-mul-rnd-by-unit
-mul_rnd_by_unit c = product_fits (x_holds c.before.before) (p_holds c) tt
+pub overflow_mul-x : goal.overflow_mul-x
+overflow_mul-x c = product_fits (x_holds c.before.before) (p_holds c) tt
 
-rnd_by_unit_requires : tie.Need-rnd-by-unit-requires
-rnd_by_unit_requires c κs = product_asked (x_holds c.before.before) (p_holds c) tt
+pub rnd_by_unit-s-requires : goal.rnd_by_unit-s-requires
+rnd_by_unit-s-requires c = product_asked (x_holds c.before.before) (p_holds c) tt
 
-raw_cosine_requires : tie.Need-raw-cosine-requires
-raw_cosine_requires c κs =
+pub raw_cosine-requires : goal.raw_cosine-requires
+raw_cosine-requires c =
     let b = c.before.before.before in
     rw (w_holds c.before.before).value (square_range b.args.x b.requires)
 
 near : (x : ℤ) → UpTo x half_quarter_parts → NearSquare (pos (pair_squares (raw_pair x)))
 near x h = let k = raw_squares x h in record { is = refl; low = omega arith; high = omega arith }
 
-pair_to_length_requires : tie.Need-pair-to-length-requires
-pair_to_length_requires c κs =
+pub pair_to_length-requires : goal.pair_to_length-requires
+pair_to_length-requires c =
     let b = c.before.before.before.before in
     let given : PairGiven (raw_pair b.args.x) = record {
       cosine_le = (c_holds c).size;
@@ -78,20 +77,8 @@ pair_to_length_requires c κs =
     } in
     rw ((c_holds c).value, (s_holds c.before).value) given
 
-returns : tie.Need-returns
+pub returns : goal.returns
 unfolding pair_of_parts
 returns c =
     search rules
-    ∙ rw ((c_holds c.before).value, (s_holds c.before.before).value) at c.pair-to-length.ensures
-
-pub pair_of_parts_spec : {M : Type 1} → statement M
-pair_of_parts_spec =
-    tie.close
-    (tie.spec
-    square_parts_requires
-    sine_factor_requires
-    mul_rnd_by_unit
-    rnd_by_unit_requires
-    raw_cosine_requires
-    pair_to_length_requires
-    returns)
+    ∙ rw ((c_holds c.before).value, (s_holds c.before.before).value) at c.pair_to_length.ensures
