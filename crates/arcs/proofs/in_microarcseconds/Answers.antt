@@ -10,24 +10,20 @@ use Rattle.rules.specs.Reading as rule
 use Rattle.laws.specs.Product.{reading_fits}
 use Rattle.laws.specs.UpTo.{up_to_le}
 use Rattle.words.specs.Holds.{Holds, bits, arg}
-use Rattle.arcs.proofs.in_microarcseconds.Statement.{statement}
-use Rattle.arcs.proofs.in_microarcseconds.Tie as tie
+use Rattle.arcs.proofs.in_microarcseconds.Goals as goal
 
-t_holds : (c : tie.Start) → Holds (bits c.args.t) c.args.t unit
+t_holds : (c : goal.Start) → Holds (bits c.args.t) c.args.t unit
 t_holds c = arg c.args.t (up_to_le c.args.t unit c.requires) tt
 
 turned : (x y : ℤ) → x *ℤ y ≡ y *ℤ x
 turned x y = ring (x ∷ y ∷ []) (v0 ⊗ v1) (v1 ⊗ v0) tt
 
-returns : tie.Need-returns
+pub returns : goal.returns
 unfolding rule.in_microarcseconds
 returns c =
     search rules
     ∙ rw (t_holds c.before).value at c.rnd_product_quotient.ensures
-    ∙ ap (λ z. rnd z half_in_parts) (turned (pos half) c.before.args.t)
+    ∙ ap (λ z. rnd z half_in_parts) (turned (pos half) c.args.t)
 
-rnd_product_quotient_requires : tie.Need-rnd-product-quotient-requires
-rnd_product_quotient_requires c κs = rw (t_holds c).value (reading_fits c.args.t (t_holds c).size)
-
-pub in_microarcseconds_spec : {M : Type 1} → statement M
-in_microarcseconds_spec = tie.close (tie.spec rnd_product_quotient_requires returns)
+pub rnd_product_quotient-requires : goal.rnd_product_quotient-requires
+rnd_product_quotient-requires c = rw (t_holds c).value (reading_fits c.args.t (t_holds c).size)
