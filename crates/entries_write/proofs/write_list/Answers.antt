@@ -64,6 +64,7 @@ returns c =
     let planned = c.write_plan-plan.ensures
     ∙ ap (λ (b : Bool). write_plan b (length xs) (length room)) c.any_refused-refused.ensures in
     let all : c.loop-i.i ≡ plan.todo = omega (arith, c.loop-i.invariant.0, c.loop-i-test.false) in
-    let put_is = c.loop-i.invariant.1 ∙ ap (λ k. put_all 0 (take k xs) room) all in
-    (c.finish.ensures.0 ∙ write_answer xs room plan planned,
-    c.finish.ensures.1 ∙ write_after xs room plan planned c.loop-i.room put_is)
+    let put_is = c.loop-i.invariant.1 ∙ ap (λ k. put_all 0 (take k xs) room) all in (
+      c.finish.ensures.0 ∙ write_answer xs room plan planned,
+      c.finish.ensures.1 ∙ write_after xs room plan planned c.loop-i.room put_is,
+    )

@@ -28,6 +28,7 @@ returns-in-Refused c =
 pub returns-in-Count : goal.returns-in-Count
 returns-in-Count c =
     let plan = c.args.plan in
-    let room = c.args.room.now in
-    (sym c.in-Count.is,
-    c.put_head.ensures ∙ counted_takes plan.answer _ (put room 0 (head_of plan.todo)) room c.in-Count.is)
+    let room = c.args.room.now in (
+      sym c.in-Count.is,
+      c.put_head.ensures ∙ counted_takes plan.answer _ (put room 0 (head_of plan.todo)) room c.in-Count.is,
+    )
