@@ -6,8 +6,8 @@ use Rattle.rules.specs.Arguments.{arguments_at}
 use Rattle.polynomials.proofs.Tested.{Tested, tested, instant_refused_lem, instant_accepted, instant_in_range}
 use Rattle.arguments.proofs.arguments.Goals as goal
 use Rattle.arguments.proofs.arguments.Lts as lts
-use Rattle.arguments.proofs.arguments.Reads as reads
 use Rattle.arguments.proofs.arguments.Tie as tie
+use Rattle.arguments.proofs.arguments.Reads as reads
 
 pub instant_refused-requires : goal.instant_refused-requires
 instant_refused-requires c = search rules

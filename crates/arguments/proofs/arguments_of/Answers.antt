@@ -8,8 +8,8 @@ use Rattle.rules.specs.Arguments.{moon_row, sun_row, latitude_row, elongation_ro
 use Rattle.polynomials.proofs.Held.{instant_held}
 use Rattle.arguments.proofs.arguments_of.Goals as goal
 use Rattle.arguments.proofs.arguments_of.Lts as lts
-use Rattle.arguments.proofs.arguments_of.Reads as reads
 use Rattle.arguments.proofs.arguments_of.Tie as tie
+use Rattle.arguments.proofs.arguments_of.Reads as reads
 
 t_held : (c : lts.Start tie.the-claims reads.Pre reads.Post) → to_z w64 (of_z w64 c.args.t.0) ≡ c.args.t.0
 t_held c = instant_held c.args.t.0 c.requires
@@ -55,4 +55,11 @@ cubic-requires-4 c = search rules
 
 pub returns : goal.returns
 unfolding arguments
-returns c = simp (moon_held, sun_held, latitude_held, elongation_held, node_held)
+returns c =
+    simp (
+      moon_held c.before.before.before.before.before.before.before,
+      sun_held c.before.before.before.before.before.before,
+      latitude_held c.before.before.before.before,
+      elongation_held c.before.before,
+      node_held c,
+    )

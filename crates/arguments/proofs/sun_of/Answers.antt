@@ -7,8 +7,8 @@ use Rattle.rules.specs.Arguments.{arguments}
 use Rattle.polynomials.proofs.Held.{instant_held}
 use Rattle.arguments.proofs.sun_of.Goals as goal
 use Rattle.arguments.proofs.sun_of.Lts as lts
-use Rattle.arguments.proofs.sun_of.Reads as reads
 use Rattle.arguments.proofs.sun_of.Tie as tie
+use Rattle.arguments.proofs.sun_of.Reads as reads
 
 t_held : (c : lts.Start tie.the-claims reads.Pre reads.Post) → to_z w64 (of_z w64 c.args.t.0) ≡ c.args.t.0
 t_held c = instant_held c.args.t.0 c.requires

@@ -3,7 +3,7 @@ use Prim.Native.Nat.{◌*◌, ◌^◌}
 use native.Mathlib.Omega.{arith}
 use borrow.Author.Rules.{rules}
 use lib.Dec.{lit<}
-use lib.IntN.{◌*ℤ◌}
+use lib.IntN.{ℤ, ◌*ℤ◌}
 use Rattle.rules.specs.Units.{century}
 use Rattle.rules.specs.Rounding.{rnd}
 use Rattle.rules.specs.Polynomials.{times_t_plus, polynomial}

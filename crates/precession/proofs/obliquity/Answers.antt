@@ -7,8 +7,8 @@ use Rattle.rules.specs.Precession.{obliquity_at}
 use Rattle.polynomials.proofs.Tested.{Tested, tested, instant_refused_lem, instant_accepted, instant_in_range}
 use Rattle.precession.proofs.obliquity.Goals as goal
 use Rattle.precession.proofs.obliquity.Lts as lts
-use Rattle.precession.proofs.obliquity.Reads as reads
 use Rattle.precession.proofs.obliquity.Tie as tie
+use Rattle.precession.proofs.obliquity.Reads as reads
 
 pub instant_refused-requires : goal.instant_refused-requires
 instant_refused-requires c = search rules

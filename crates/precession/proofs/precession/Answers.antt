@@ -6,8 +6,8 @@ use Rattle.rules.specs.Precession.{precession_at}
 use Rattle.polynomials.proofs.Tested.{Tested, tested, instant_refused_lem, instant_accepted, instant_in_range}
 use Rattle.precession.proofs.precession.Goals as goal
 use Rattle.precession.proofs.precession.Lts as lts
-use Rattle.precession.proofs.precession.Reads as reads
 use Rattle.precession.proofs.precession.Tie as tie
+use Rattle.precession.proofs.precession.Reads as reads
 
 pub instant_refused-requires : goal.instant_refused-requires
 instant_refused-requires c = search rules

@@ -8,8 +8,8 @@ use Rattle.rules.specs.Precession.{zeta_row, z_row, theta_row, precession}
 use Rattle.polynomials.proofs.Held.{instant_held}
 use Rattle.precession.proofs.precession_of.Goals as goal
 use Rattle.precession.proofs.precession_of.Lts as lts
-use Rattle.precession.proofs.precession_of.Reads as reads
 use Rattle.precession.proofs.precession_of.Tie as tie
+use Rattle.precession.proofs.precession_of.Reads as reads
 
 t_held : (c : lts.Start tie.the-claims reads.Pre reads.Post) → to_z w64 (of_z w64 c.args.t.0) ≡ c.args.t.0
 t_held c = instant_held c.args.t.0 c.requires
