@@ -13,7 +13,7 @@ use Rattle.line_dates.proofs.print_date.Goals as goal
 
 pub returns-then-out-lt64 : goal.returns-then-out-lt64
 unfolding date_in overlaid
-returns-then-out-lt64 c = let t = lt-ltb _ _ c.before.if-out-lt64.true in record { answer = simp t; kept = simp t }
+returns-then-out-lt64 c = let t = lt-ltb _ _ c.if-out-lt64.true in record { answer = simp t; kept = simp t }
 
 pub put_line-requires : goal.put_line-requires
 put_line-requires c = search rules
@@ -24,13 +24,7 @@ shape_of-out c = search rules
 pub returns : goal.returns
 unfolding date_in
 returns c =
-    let x = c.before.before.before in
-    let a = x.before.before in
-    let s = a.before.before.before in
-    let room = s.args.out.now in
-    let line = s.args.line.now in
-    let l : 64 ≤ length room = a.if-out-lt64.false in
-    rw (le-ltb (length room) 64 l) (
-      x.put_line.ensures.value,
-      x.put_line.ensures.out_after ∙ overlaid_is (date_line line) room (omega (arith, date_line_le line)),
-    )
+    let room = c.args.out.now in
+    let line = c.args.line.now in
+    let l : 64 ≤ length room = c.if-out-lt64.false in
+    rw (le-ltb (length room) 64 l) (record { answer = c.put_line.ensures.value; kept = c.put_line.ensures.out_after ∙ overlaid_is (date_line line) room (omega (arith, date_line_le line)) })

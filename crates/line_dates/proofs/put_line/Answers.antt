@@ -27,19 +27,16 @@ shape_of-out-then-not-of_number c = search rules
 
 pub returns-then-not-of_number : goal.returns-then-not-of_number
 returns-then-not-of_number c =
-    let x = c.before.before.before in
-    let o = x.before.before.before in
-    let s = o.before.before.before in
-    let e = sym (line_other s.args.line.now
-    (sym o.of_number.ensures ∙ not-true _ x.before.before.if-not-of_number.true)) in
-    record { value = x.Put-refused.ensures.0 ∙ ap length e; out_after = x.Put-refused.ensures.1 ∙ ap (sets s.args.out.now 0) e }
+    let e = sym (line_other c.args.line.now
+    (sym c.of_number.ensures ∙ c.if-not-of_number.true)) in
+    record { value = c.put_refused.ensures.value ∙ ap length e; out_after = c.put_refused.ensures.out_after ∙ ap (sets c.args.out.now 0) e }
 
-is_number : (c : lts.Else1 tie.the-claims reads.Pre reads.Post tie.handed_clauses) → of_number 18 c.before.before.before.before.args.line.now ≡ true
-is_number c = sym c.before.of_number.ensures ∙ c.if-not-of_number.false
+is_number : (c : lts.Else1 tie.the-claims reads.Pre reads.Post tie.handed_clauses) → of_number 18 c.args.line.now ≡ true
+is_number c = sym c.of_number.ensures ∙ c.if-not-of_number.false
 
 pub signed-requires : goal.signed-requires
 unfolding of_number
-signed-requires c h = is_number c
+signed-requires c h = is_number c.before
 
 pub utc_of_tt-requires : goal.utc_of_tt-requires
 utc_of_tt-requires c = search rules
@@ -63,12 +60,9 @@ module _ (c : lts.After-put_clocked tie.the-claims reads.Pre reads.Post tie.hand
   line_is : clocked_text utc.utc_of_tt.result ≡ date_line start.args.line.now
   line_is =
       ap clocked_text (utc.utc_of_tt.ensures ∙ ap (λ z. utc_of_tt (record { 0 = z }))
-      (to_z-of_z {w = w64} (sfits_of number.signed.ok) ∙ number.signed.ensures.0))
+      (to_z-of_z {w = w64} (sfits_of number.signed.type_inv) ∙ number.signed.ensures.0))
       ∙ sym (line_of_number start.args.line.now (is_number number.before))
 
 pub returns : goal.returns
 returns c =
-    let x = c.before.before.before in (
-      x.put_clocked.ensures.value ∙ ap length (line_is x),
-      x.put_clocked.ensures.out_after ∙ ap (sets (start x).args.out.now 0) (line_is x),
-    )
+    record { value = c.put_clocked.ensures.value ∙ ap length (line_is c.before.before.before); out_after = c.put_clocked.ensures.out_after ∙ ap (sets (start c.before.before.before).args.out.now 0) (line_is c.before.before.before) }

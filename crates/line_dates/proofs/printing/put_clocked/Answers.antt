@@ -36,32 +36,26 @@ shape_of-out-in-At c = search rules
 
 pub returns-in-At : goal.returns-in-At
 returns-in-At c =
-    let x = c.before.before.before in
-    let told = x.before.before.before in
-    let s = told.before.before.before in
-    let e = sym (ap clocked_text told.clocked-1.given.1 ∙ at_text told.clocked-1.given.0.0) in
-    record { value = x.put_utc.ensures.value ∙ ap length e; out_after = x.put_utc.ensures.out_after ∙ ap (sets s.args.out.now 0) e }
+    let e = sym (ap clocked_text c.in-At.is ∙ at_text c.in-At.utc) in
+    record { value = c.put_utc.ensures.value ∙ ap length e; out_after = c.put_utc.ensures.out_after ∙ ap (sets c.args.out.now 0) e }
 
 pub shape_of-out-in-Refused : goal.shape_of-out-in-Refused
 shape_of-out-in-Refused c = search rules
 
 module _ (c : lts.After-put_refused tie.the-claims reads.Pre reads.Post tie.handed_clauses) where
-  abbrev told : lts.After-clocked2 tie.the-claims reads.Pre reads.Post tie.handed_clauses
-  told = c.before.before.before.before
+  abbrev told : lts.Past-After-known_told2 tie.the-claims reads.Pre reads.Post tie.handed_clauses
+  told = c.before.before.before
 
   abbrev start : lts.Start tie.the-claims reads.Pre reads.Post tie.handed_clauses
-  start = told.before.before.before
+  start = told.before.before
 
-  refused_is : refused_text ++ decimal (to_z w64 (of_z w64 c.before.before.number.result))
+  refused_is : refused_text ++ decimal (to_z w64 (of_z w64 c.number.result))
       ≡ clocked_text start.args.clocked
   refused_is =
-      ap (λ z. refused_text ++ decimal z) (to_z-of_z (sfits_of c.before.before.number.type_inv)
-      ∙ c.before.before.number.ensures)
-      ∙ sym (ap clocked_text told.clocked-in-Refused-1.given.1 ∙ refused_text_lem told.clocked-in-Refused-1.given.0.0)
+      ap (λ z. refused_text ++ decimal z) (to_z-of_z {w = w64} (sfits_of c.number.type_inv)
+      ∙ c.number.ensures)
+      ∙ sym (ap clocked_text told.in-Refused.is ∙ refused_text_lem told.in-Refused.r)
 
 pub returns-in-Refused : goal.returns-in-Refused
 returns-in-Refused c =
-    let x = c.before.before.before in (
-      x.Put-refused.ensures.0 ∙ ap length (refused_is x),
-      x.Put-refused.ensures.1 ∙ ap (sets (start x).args.out.now 0) (refused_is x),
-    )
+    record { value = c.put_refused.ensures.value ∙ ap length (refused_is c.before.before.before); out_after = c.put_refused.ensures.out_after ∙ ap (sets (start c.before.before.before).args.out.now 0) (refused_is c.before.before.before) }

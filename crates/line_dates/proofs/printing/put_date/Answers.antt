@@ -1,4 +1,5 @@
 -- `line_dates::printing::put_date` meets its contract.
+use mir.Syntax.{w32}
 use mathlib.Core.Path.{◌≡◌, ◌∙◌}
 use mathlib.Core.List.{List, ◌∷◌}
 use Prim.Native.Nat.{ℕ}
@@ -16,7 +17,7 @@ use Rattle.line_dates.proofs.printing.put_date.Reads as reads
 use Rattle.line_dates.proofs.printing.put_date.Tie as tie
 
 pub overflow_cast-date : goal.overflow_cast-date
-overflow_cast-date c = widened_ok c.before.before.before.before.args.date.year (sfits_of c.before.struct_told-1.given.0.1)
+overflow_cast-date c = widened_ok c.args.date.year (sfits_of c.struct_told-1.given.0.1)
 
 pub put_digits-requires : goal.put_digits-requires
 put_digits-requires c = search rules
@@ -48,19 +49,19 @@ module _ (c : lts.After-put_marked2 tie.the-claims reads.Pre reads.Post) where
 
   year_is : year_put.put_digits.new.out ≡ sets room 0 (field_text 4 date.year)
   year_is =
-      rw (widened date.year (sfits_of year_put.before.before.struct_told-1.given.0.1)).value
+      rw (widened date.year (sfits_of year_put.struct_told-1.given.0.1)).value
       at year_put.put_digits.ensures
 
   month_is : month_put.put_marked.new.out
       ≡ sets year_put.put_digits.new.out 4 (hyphen ∷ field_text 2 date.month)
   month_is =
-      rw (to_z-of_z (sfits_of {z = date.month} month_put.before.struct_told-2-1.given.1.0.1))
+      rw (to_z-of_z {w = w32} (sfits_of {z = date.month} month_put.struct_told-2-1.given.1.0.1))
       at month_put.put_marked.ensures
 
   day_is : c.put_marked-2.new.out
       ≡ sets month_put.put_marked.new.out 7 (hyphen ∷ field_text 2 date.day)
   day_is =
-      rw (to_z-of_z (sfits_of {z = date.day} c.before.struct_told-3-1.given.1.1.0.1)) at c.put_marked-2.ensures
+      rw (to_z-of_z {w = w32} (sfits_of {z = date.day} c.struct_told-3-1.given.1.1.0.1)) at c.put_marked-2.ensures
 
   date_is : c.put_marked-2.new.out
       ≡ sets (sets (sets room 0 (field_text 4 date.year)) 4 (hyphen ∷ field_text 2 date.month)) 7
@@ -68,4 +69,4 @@ module _ (c : lts.After-put_marked2 tie.the-claims reads.Pre reads.Post) where
   date_is = rw (← year_is, ← month_is) day_is
 
 pub returns : goal.returns
-returns c = let x = c.before.before.before in date_is x ∙ date_rows (room x) (date x)
+returns c = date_is c.before.before.before ∙ date_rows (room c.before.before.before) (date c.before.before.before)

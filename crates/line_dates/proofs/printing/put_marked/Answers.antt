@@ -18,15 +18,14 @@ pub bounds-out-at : goal.bounds-out-at
 bounds-out-at c = search rules
 
 pub overflow_cast-n : goal.overflow_cast-n
-overflow_cast-n c = let s = c.before in widened_ok s.args.n s.ranges.n
+overflow_cast-n c = widened_ok c.args.n c.ranges.n
 
 pub overflow_add-at : goal.overflow_add-at
 overflow_add-at c = search rules
 
 pub put_digits-requires : goal.put_digits-requires
 put_digits-requires c =
-    let s = c.before.before in
-    omega (arith, s.requires, length-set s.args.out.now s.args.at s.args.mark)
+    omega (arith, c.requires, length-set c.args.out.now c.args.at c.args.mark)
 
 module _ (c : lts.After-put_digits tie.the-claims reads.Pre reads.Post) where
   abbrev start : lts.Start tie.the-claims reads.Pre reads.Post
@@ -40,9 +39,8 @@ module _ (c : lts.After-put_digits tie.the-claims reads.Pre reads.Post) where
 
 pub shape_of-out : goal.shape_of-out
 shape_of-out c =
-    let x = c.before.before.before in
-    let s = start x in
-    ap length (bytes x) ∙ length-sets s.args.out.now s.args.at (row x)
+    let s = start c.before.before.before in
+    ap length (bytes c.before.before.before) ∙ length-sets s.args.out.now s.args.at (row c.before.before.before)
 
 pub returns : goal.returns
 returns c = bytes c.before.before.before

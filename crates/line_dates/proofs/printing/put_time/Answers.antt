@@ -1,4 +1,5 @@
 -- `line_dates::printing::put_time` meets its contract.
+use mir.Syntax.{w32}
 use mathlib.Core.Path.{◌≡◌, ◌∙◌}
 use mathlib.Core.List.{List, ◌∷◌}
 use Prim.Native.Nat.{ℕ}
@@ -50,25 +51,25 @@ module _ (c : lts.After-put_marked4 tie.the-claims reads.Pre reads.Post) where
 
   hour_is : hour_put.put_marked.new.out ≡ sets room 10 (space ∷ field_text 2 time.hour)
   hour_is =
-      rw (to_z-of_z (sfits_of {z = time.hour} hour_put.before.struct_told-1.given.0.1))
+      rw (to_z-of_z {w = w32} (sfits_of {z = time.hour} hour_put.struct_told-1.given.0.1))
       at hour_put.put_marked.ensures
 
   minute_is : minute_put.put_marked-2.new.out
       ≡ sets hour_put.put_marked.new.out 13 (colon ∷ field_text 2 time.minute)
   minute_is =
-      rw (to_z-of_z (sfits_of {z = time.minute} minute_put.before.struct_told-2-1.given.1.0.1))
+      rw (to_z-of_z {w = w32} (sfits_of {z = time.minute} minute_put.struct_told-2-1.given.1.0.1))
       at minute_put.put_marked-2.ensures
 
   second_is : second_put.put_marked-3.new.out
       ≡ sets minute_put.put_marked-2.new.out 16 (colon ∷ field_text 2 time.second)
   second_is =
-      rw (to_z-of_z (sfits_of {z = time.second} second_put.before.struct_told-3-1.given.1.1.0.1))
+      rw (to_z-of_z {w = w32} (sfits_of {z = time.second} second_put.struct_told-3-1.given.1.1.0.1))
       at second_put.put_marked-3.ensures
 
   ms_is : c.put_marked-4.new.out
       ≡ sets second_put.put_marked-3.new.out 19 (point ∷ field_text 3 time.ms)
   ms_is =
-      rw (to_z-of_z (sfits_of {z = time.ms} c.before.struct_told-4-1.given.1.1.1.0.1))
+      rw (to_z-of_z {w = w32} (sfits_of {z = time.ms} c.struct_told-4-1.given.1.1.1.0.1))
       at c.put_marked-4.ensures
 
   time_is : c.put_marked-4.new.out
@@ -77,4 +78,4 @@ module _ (c : lts.After-put_marked4 tie.the-claims reads.Pre reads.Post) where
   time_is = rw (← hour_is, ← minute_is, ← second_is) ms_is
 
 pub returns : goal.returns
-returns c = let x = c.before.before.before in time_is x ∙ time_rows (room x) (time x)
+returns c = time_is c.before.before.before ∙ time_rows (room c.before.before.before) (time c.before.before.before)

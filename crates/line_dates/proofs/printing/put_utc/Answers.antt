@@ -17,11 +17,8 @@ shape_of-out c = search rules
 
 pub returns : goal.returns
 returns c =
-    let t = c.before.before.before in
-    let d = t.before.before.before.before in
-    let s = d.before.before.before in
-    let u = s.args.utc in (
-      sym (utc_length u),
-      t.put_time.ensures ∙ ap (λ l. sets l 10 (time_text u.time)) d.put_date.ensures
-          ∙ utc_rows s.args.out.now u,
-    )
+    let u = c.args.utc in record {
+      value = sym (utc_length u);
+      out_after = c.put_time.ensures ∙ ap (λ l. sets l 10 (time_text u.time)) c.put_date.ensures
+          ∙ utc_rows c.args.out.now u;
+    }
