@@ -16,8 +16,8 @@ use Rattle.line_asked.proofs.asked_of.Reads as reads
 use Rattle.line_asked.proofs.asked_of.Tie as tie
 
 pub returns-then-line-lt24 : goal.returns-then-line-lt24
-returns-then-line-lt24 c = let line = c.before.before.before.args.line.now in sym
-    (asked_short line (omega (arith, end_ge line, c.before.if-line-lt24.true)))
+returns-then-line-lt24 c = let line = c.args.line.now in sym
+    (asked_short line (omega (arith, end_ge line, c.if-line-lt24.true)))
 
 pub slice_bounds-length_before-count : goal.slice_bounds-length_before-count
 slice_bounds-length_before-count c = search rules
@@ -33,10 +33,10 @@ length_before-end-requires c = search rules
 
 module _ (w : lts.After-length_before tie.the-claims reads.Pre reads.Post) where
   abbrev text : List ℕ
-  text = w.before.before.before.before.args.line.now
+  text = w.args.line.now
 
   long : 24 ≤ length text
-  long = w.before.before.if-line-lt24.left
+  long = w.if-line-lt24.false
 
   end_of : 24 + w.length_before-end.result ≡ moment_end text
   end_of = end_is text w.length_before-end.result w.length_before-end.ensures
@@ -46,16 +46,14 @@ overflow_add-end c = omega (arith, end_of c.before, end_le (text c.before) (long
 
 pub returns-then-line-end : goal.returns-then-line-end
 returns-then-line-end c =
-    let w = c.before.before in
-    sym (asked_short (text w) (omega (arith, end_of w, c.before.if-line-end.true)))
+    sym (asked_short (text c.before.before) (omega (arith, end_of c.before.before, c.if-line-end.true)))
 
 pub overflow_add-next : goal.overflow_add-next
 overflow_add-next c = search rules
 
 pub slice_bounds-line_of-end : goal.slice_bounds-line_of-end
 slice_bounds-line_of-end c =
-    let w = c.before.before.before in
-    sym (length-take-le (24 + w.length_before-end.result) (text w) (omega (arith, end_of w, end_le (text w) (long w))))
+    sym (length-take-le (24 + c.length_before-end.result) (text c.before.before) (omega (arith, end_of c.before.before, end_le (text c.before.before) (long c.before.before))))
 
 pub line_of-requires : goal.line_of-requires
 line_of-requires c = search rules
@@ -81,23 +79,18 @@ enum_told-1 c = search rules
 pub returns-in-Of : goal.returns-in-Of
 unfolding asked_of asked_in
 returns-in-Of c =
-    let m = c.before.before.before.before in
-    let l = m.before.before in
-    let w = l.before.before.before in
-    let line = text w in
-    let e = end_of w in
-    c.before.with_site.ensures
-    ∙ ap (with_site m.moment-1.given.0.0) (to_end line (24 + w.length_before-end.result + 1))
-    ∙ sym (ap (λ x. asked_in x (drop (24 + w.length_before-end.result + 1) line)) m.moment-1.given.1)
-    ∙ ap (λ x. asked_in x (drop (24 + w.length_before-end.result + 1) line)) l.line_of.ensures
+    let line = text c.before.before.before.before.before.before in
+    let e = end_of c.before.before.before.before.before.before in
+    c.with_site.ensures
+    ∙ ap (with_site c.in-Of.moment) (to_end line (24 + c.length_before-end.result + 1))
+    ∙ sym (ap (λ x. asked_in x (drop (24 + c.length_before-end.result + 1) line)) c.in-Of.is)
+    ∙ ap (λ x. asked_in x (drop (24 + c.length_before-end.result + 1) line)) c.line_of.ensures
     ∙ ap (λ k. asked_in (line_of (take k line)) (drop (k + 1) line)) e
 
 pub returns-in-Other : goal.returns-in-Other
 unfolding asked_of asked_in
 returns-in-Other c =
-    let l = c.before.before.before in
-    let w = l.before.before.before in
-    let line = text w in
-    sym (ap (λ x. asked_in x (drop (24 + w.length_before-end.result + 1) line)) c.before.enum_told-1.given.1)
-    ∙ ap (λ x. asked_in x (drop (24 + w.length_before-end.result + 1) line)) l.line_of.ensures
-    ∙ ap (λ k. asked_in (line_of (take k line)) (drop (k + 1) line)) (end_of w)
+    let line = text c.before.before.before.before in
+    sym (ap (λ x. asked_in x (drop (24 + c.length_before-end.result + 1) line)) c.in-Other.is)
+    ∙ ap (λ x. asked_in x (drop (24 + c.length_before-end.result + 1) line)) c.line_of.ensures
+    ∙ ap (λ k. asked_in (line_of (take k line)) (drop (k + 1) line)) (end_of c.before.before.before.before)

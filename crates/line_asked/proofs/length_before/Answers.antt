@@ -16,9 +16,8 @@ bounds-s-i c = omega arith
 
 pub returns-then-s-i : goal.returns-then-s-i
 returns-then-s-i c =
-    let a = c.before.before.before.before in
-    let s = a.before.args in
-    before_found s.byte s.s.now a.loop-i.i _ (omega arith) c.before.if-s-i.true a.loop-i.invariant.1
+    let s = c.args in
+    before_found s.byte s.s.now c.loop-i.i _ (omega arith) c.if-s-i.true c.loop-i.invariant.1
 
 pub overflow_add-i : goal.overflow_add-i
 overflow_add-i c = omega arith
@@ -28,12 +27,10 @@ loop-i-smaller c = omega arith
 
 pub loop-i-preserved : goal.loop-i-preserved
 loop-i-preserved c =
-    let a = c.before.before.before.before in
-    let s = a.before.args in
-    (omega arith, before_on s.byte s.s.now a.loop-i.i _ (omega arith) c.before.if-s-i.false a.loop-i.invariant.1)
+    let s = c.args in
+    (omega arith, before_on s.byte s.s.now c.loop-i.i _ (omega arith) c.if-s-i.false c.loop-i.invariant.1)
 
 pub returns : goal.returns
 returns c =
-    let a = c.before in
-    let s = a.before.args.s.now in
-    omega (arith, a.loop-i.invariant.1, before_end a.before.args.byte s a.loop-i.i (omega arith))
+    let s = c.args.s.now in
+    omega (arith, c.loop-i.invariant.1, before_end c.args.byte s c.loop-i.i (omega arith))

@@ -29,7 +29,7 @@ length_before-n-requires c = search rules
 
 module _ (w : lts.After-length_before tie.the-claims reads.Pre reads.Post) where
   abbrev text : List ℕ
-  text = w.before.before.args.s.now
+  text = w.args.s.now
 
   n_is : w.length_before-n.result ≡ word_length text
   n_is = w.length_before-n.ensures
@@ -44,22 +44,21 @@ spellable bs e = few_spellable (unsigned bs) (of_digits_le 12 (unsigned bs) e).1
 pub returns-then-s-n : goal.returns-then-s-n
 unfolding with_site
 returns-then-s-n c =
-    let w = c.before.before in
-    rw (site_short (text w) (omega (arith, n_is w, c.before.if-s-n.true)))
+    rw (site_short (text c.before.before) (omega (arith, n_is c.before.before, c.if-s-n.true)))
 
 pub overflow_add-next : goal.overflow_add-next
 overflow_add-next c = search rules
 
 pub slice_bounds-of_number-end : goal.slice_bounds-of_number-end
-slice_bounds-of_number-end c = let w = c.before.before.before in sym
-    (length-take-le w.length_before-n.result (text w) (inside w))
+slice_bounds-of_number-end c = sym
+    (length-take-le c.length_before-n.result (text c.before.before) (inside c.before.before))
 
 pub of_number-requires : goal.of_number-requires
 of_number-requires c = search rules
 
 module _ (c : lts.After-of_number tie.the-claims reads.Pre reads.Post) where
   abbrev v : lts.After-length_before tie.the-claims reads.Pre reads.Post
-  v = c.before.before.before
+  v = c.before.before
 
   first_is : (b : Bool) → c.of_number.result ≡ b → of_number 12 (first_word (text v)) ≡ b
   first_is b e =
@@ -68,7 +67,7 @@ module _ (c : lts.After-of_number tie.the-claims reads.Pre reads.Post) where
 
 pub returns-then-not-of_number : goal.returns-then-not-of_number
 unfolding with_site of_site
-returns-then-not-of_number c = rw (first_is c.before.before false c.before.if-not-of_number.true)
+returns-then-not-of_number c = rw (first_is c.before.before false c.if-not-of_number.true)
 
 pub slice_bounds-of_number-count : goal.slice_bounds-of_number-count
 slice_bounds-of_number-count c = search rules
@@ -94,19 +93,19 @@ module _ (c : lts.After-of_number2 tie.the-claims reads.Pre reads.Post) where
 pub returns-then-not-of_number-2 : goal.returns-then-not-of_number-2
 unfolding with_site of_site
 returns-then-not-of_number-2 c = rw (
-  first_is (o c.before.before) true c.before.before.before.before.if-not-of_number.false,
+  first_is (o c.before.before) true c.if-not-of_number.false,
   after_is
-      c.before.before false c.before.if-not-of_number-2.true,
+      c.before.before false c.if-not-of_number-2.true,
 )
 
 pub slice_bounds-signed-end : goal.slice_bounds-signed-end
-slice_bounds-signed-end c = let w = v (o c.before.before.before) in sym
+slice_bounds-signed-end c = let w = v (o c.before.before) in sym
     (length-take-le w.length_before-n.result (text w) (inside w))
 
 pub signed-requires : goal.signed-requires
 signed-requires c =
-    let a = o c.before.before.before in
-    spellable _ (sym a.of_number.ensures ∙ c.before.before.before.before.before.if-not-of_number.false)
+    let a = o c.before.before in
+    spellable _ (sym a.of_number.ensures ∙ c.if-not-of_number.false)
 
 pub slice_bounds-signed-count : goal.slice_bounds-signed-count
 slice_bounds-signed-count c = search rules
@@ -119,21 +118,18 @@ slice_bounds-signed-end-2 c = search rules
 
 pub signed-requires-2 : goal.signed-requires-2
 signed-requires-2 c =
-    let b = c.before.before.before.before.before in
-    spellable _ (sym b.of_number-2.ensures ∙ c.before.before.before.before.if-not-of_number-2.false)
+    spellable _ (sym c.of_number-2.ensures ∙ c.if-not-of_number-2.false)
 
 pub returns : goal.returns
 unfolding with_site of_site site_in
 returns c =
-    let e = c.before.before.before.before.before in
-    let b = e.before in
-    let w = v (o b) in
-    let m = w.before.before.args.moment in
-    let latitude : to_z w64 (bits c.before.before.before.signed.result) ≡ signed (first_word (text w)) =
-    to_z-of_z {w = w64} (sfits_of c.before.before.before.signed.type_inv) ∙ c.before.before.before.signed.ensures.0
+    let w = v (o c.before.before.before.before.before) in
+    let m = w.args.moment in
+    let latitude : to_z w64 (bits c.signed.result) ≡ signed (first_word (text w)) =
+    to_z-of_z {w = w64} (sfits_of c.signed.type_inv) ∙ c.signed.ensures.0
     ∙ ap signed (first_word_is (text w) w.length_before-n.result (n_is w)) in
-    let longitude : to_z w64 (bits c.before.signed-2.result) ≡ signed (after_word (text w)) =
-    to_z-of_z {w = w64} (sfits_of c.before.signed-2.type_inv) ∙ c.before.signed-2.ensures.0
+    let longitude : to_z w64 (bits c.signed-2.result) ≡ signed (after_word (text w)) =
+    to_z-of_z {w = w64} (sfits_of c.signed-2.type_inv) ∙ c.signed-2.ensures.0
     ∙ ap signed (after_word_is (text w) w.length_before-n.result (n_is w)) in
-    rw (first_is (o b) true (not-false _ b.before.before.if-not-of_number.false), after_is b true (not-false _ e.if-not-of_number-2.false))
+    rw (first_is (o c.before.before.before.before.before) true c.if-not-of_number.false, after_is c.before.before.before.before.before true c.if-not-of_number-2.false)
     (ap (λ (s : Site). Asked.For m s) (λ i. record { latitude = latitude i; longitude = longitude i }))
