@@ -5,18 +5,17 @@ use mir.Syntax.{w64}
 use mir.Val.{to_z, of_z}
 use Rattle.rules.specs.Sidereal.{sidereal_polynomial}
 use Rattle.polynomials.proofs.Held.{instant_held}
-use Rattle.sidereal.proofs.sidereal_polynomial_of.Statement.{statement}
+use Rattle.sidereal.proofs.sidereal_polynomial_of.Goals as goal
+use Rattle.sidereal.proofs.sidereal_polynomial_of.Lts as lts
 use Rattle.sidereal.proofs.sidereal_polynomial_of.Tie as tie
+use Rattle.sidereal.proofs.sidereal_polynomial_of.Reads as reads
 
-t_held : (c : tie.Start) → to_z w64 (of_z w64 c.args.t.0) ≡ c.args.t.0
+t_held : (c : lts.Start tie.the-claims reads.Pre reads.Post) → to_z w64 (of_z w64 c.args.t.0) ≡ c.args.t.0
 t_held c = instant_held c.args.t.0 c.requires
 
-cubic_requires : tie.Need-cubic-requires
-cubic_requires c κs = search rules
+pub cubic-requires : goal.cubic-requires
+cubic-requires c = search rules
 
-returns : tie.Need-returns
+pub returns : goal.returns
 unfolding sidereal_polynomial
 returns c = search rules ∙ simp t_held at c.cubic.ensures
-
-pub sidereal_polynomial_of_spec : {M : Type 1} → statement M
-sidereal_polynomial_of_spec = tie.close (tie.spec cubic_requires returns)
