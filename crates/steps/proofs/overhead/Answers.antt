@@ -13,14 +13,14 @@ returns c = c.turn_by-2.ensures ∙ ap (turn_by (+ 2) _) c.turn_by.ensures
 pub turn_by-requires : goal.turn_by-requires
 turn_by-requires c =
     let start = c.before.before in
-    record { direction = start.requires.direction; pair = start.requires.night.minus_sidereal-1 }
+    record { direction = start.requires.direction; pair = start.requires.night.minus_sidereal }
 
 pub turn_by-requires-2 : goal.turn_by-requires-2
 turn_by-requires-2 c =
     let start = c.before.before.before in
     record {
       direction = rw c.turn_by.ensures
-          (turn_by_accepted (+ 3) start.args.n.minus_sidereal-1 start.args.v start.requires.night.minus_sidereal-1
+          (turn_by_accepted (+ 3) start.args.n.minus_sidereal start.args.v start.requires.night.minus_sidereal
           start.requires.direction);
-      pair = start.requires.night.latitude_less_quarter-1;
+      pair = start.requires.night.latitude_less_quarter;
     }
