@@ -4,7 +4,7 @@ use Rattle.rules.specs.Units.{+◌}
 use Rattle.rules.specs.Turning.{turn_by}
 use Rattle.rules.specs.Place.{overhead}
 <<<<<<< HEAD:crates/steps/proofs/overhead/Answers.antt
-use Rattle.laws.specs.Turning.{turn_by_accepted}
+use Rattle.laws.proofs.Turning.{turn_by_accepted}
 use Rattle.steps.proofs.overhead.Goals as goal
 =======
 use Rattle.laws.proofs.Turning.{turn_by_accepted}

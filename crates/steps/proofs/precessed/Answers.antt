@@ -6,7 +6,7 @@ use Rattle.rules.specs.Length.{squares}
 use Rattle.rules.specs.Turning.{Accepted, turn_by}
 use Rattle.rules.specs.Place.{precessed}
 <<<<<<< HEAD:crates/steps/proofs/precessed/Answers.antt
-use Rattle.laws.specs.Turning.{turn_by_accepted}
+use Rattle.laws.proofs.Turning.{turn_by_accepted}
 use Rattle.steps.proofs.precessed.Goals as goal
 use Rattle.steps.proofs.precessed.Lts as lts
 =======
