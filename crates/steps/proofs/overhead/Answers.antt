@@ -3,21 +3,26 @@ use mathlib.Core.Path.{ap, ◌∙◌}
 use Rattle.rules.specs.Units.{+◌}
 use Rattle.rules.specs.Turning.{turn_by}
 use Rattle.rules.specs.Place.{overhead}
+<<<<<<< HEAD:crates/steps/proofs/overhead/Answers.antt
+use Rattle.laws.proofs.Turning.{turn_by_accepted}
+use Rattle.steps.proofs.overhead.Goals as goal
+=======
 use Rattle.laws.proofs.Turning.{turn_by_accepted}
 use Rattle.steps.proofs.overhead.Statement.{statement}
 use Rattle.steps.proofs.overhead.Tie as tie
+>>>>>>> 7238a343cc37c789dd8a89dc71ea453b41e4f654:crates/steps/proofs/overhead/Proof.antt
 
-returns : tie.Need-returns
+pub returns : goal.returns
 unfolding overhead
-returns c = c.turn-by2.ensures ∙ ap (turn_by (+ 2) _) c.before.turn_by.ensures
+returns c = c.turn_by-2.ensures ∙ ap (turn_by (+ 2) _) c.turn_by.ensures
 
-turn_by_requires : tie.Need-turn-by-requires
-turn_by_requires c κs =
+pub turn_by-requires : goal.turn_by-requires
+turn_by-requires c =
     let start = c.before.before in
     record { direction = start.requires.direction; pair = start.requires.night.minus_sidereal }
 
-turn_by_requires_2 : tie.Need-turn-by-requires-2
-turn_by_requires_2 c κs =
+pub turn_by-requires-2 : goal.turn_by-requires-2
+turn_by-requires-2 c =
     let start = c.before.before.before in
     record {
       direction = rw c.turn_by.ensures
@@ -25,6 +30,3 @@ turn_by_requires_2 c κs =
           start.requires.direction);
       pair = start.requires.night.latitude_less_quarter;
     }
-
-pub overhead_spec : {M : Type 1} → statement M
-overhead_spec = tie.close (tie.spec turn_by_requires turn_by_requires_2 returns)

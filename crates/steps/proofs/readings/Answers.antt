@@ -10,8 +10,7 @@ use Rattle.rules.specs.Length.{squares}
 use Rattle.rules.specs.Turning.{Accepted}
 use Rattle.rules.specs.Place.{readings}
 use Rattle.laws.specs.Directions.{accepted_parts}
-use Rattle.steps.proofs.readings.Statement.{statement}
-use Rattle.steps.proofs.readings.Tie as tie
+use Rattle.steps.proofs.readings.Goals as goal
 
 x_holds : (v : Direction) → Accepted (squares v) → Holds (bits v.x) v.x (unit + 1)
 x_holds v h = arg v.x (accepted_parts v h).x tt
@@ -19,7 +18,7 @@ x_holds v h = arg v.x (accepted_parts v h).x tt
 y_holds : (v : Direction) → Accepted (squares v) → Holds (bits v.y) v.y (unit + 1)
 y_holds v h = arg v.y (accepted_parts v h).y tt
 
-returns : tie.Need-returns
+pub returns : goal.returns
 unfolding readings
 returns c =
     let start = c.before.before.before.before.before.before.before.before.before in
@@ -29,39 +28,34 @@ returns c =
     let second = c.before.before.before.before.before in
     let third = c.before in
     rw (
-      rw ((x_holds v start.requires.0).value, (y_holds v start.requires.0).value) at first.read.ensures,
-      held64 second.height.result second.height.type-inv ∙ second.height.ensures,
-      rw ((negate (x_holds w start.requires.1) tt).value, (y_holds w start.requires.1).value)
-          at third.read2.ensures,
-      held64 c.height2.result c.height2.type-inv ∙ c.height2.ensures,
+      rw ((x_holds v start.requires.accepted).value, (y_holds v start.requires.accepted).value) at first.read.ensures,
+      held64 second.height.result second.height.type_inv ∙ second.height.ensures,
+      rw ((negate (x_holds w start.requires.accepted_2) tt).value, (y_holds w start.requires.accepted_2).value)
+          at third.read-2.ensures,
+      held64 c.height-2.result c.height-2.type_inv ∙ c.height-2.ensures,
     )
 
-read_requires : tie.Need-read-requires
-read_requires c κs =
+pub read-requires : goal.read-requires
+read-requires c =
     let start = c.before.before in
-    let x = x_holds start.args.v start.requires.0 in
-    let y = y_holds start.args.v start.requires.0 in
+    let x = x_holds start.args.v start.requires.accepted in
+    let y = y_holds start.args.v start.requires.accepted in
     rw (x.value, y.value) (record { h_le = x.size; v_le = y.size })
 
-height_requires : tie.Need-height-requires
-height_requires c κs = search rules
+pub height-requires : goal.height-requires
+height-requires c = search rules
 
-sub_read : tie.Need-overflow-sub-read
-sub_read c =
+pub overflow_sub-w : goal.overflow_sub-w
+overflow_sub-w c =
     let start = c.before.before.before.before.before.before in
-    negate_ok (x_holds start.args.w start.requires.1) tt
+    negate_ok (x_holds start.args.w start.requires.accepted_2) tt
 
-read_requires_2 : tie.Need-read-requires-2
-read_requires_2 c κs =
+pub read-requires-2 : goal.read-requires-2
+read-requires-2 c =
     let start = c.before.before.before.before.before.before.before in
-    let x = negate (x_holds start.args.w start.requires.1) tt in
-    let y = y_holds start.args.w start.requires.1 in
+    let x = negate (x_holds start.args.w start.requires.accepted_2) tt in
+    let y = y_holds start.args.w start.requires.accepted_2 in
     rw (x.value, y.value) (record { h_le = x.size; v_le = y.size })
 
-height_requires_2 : tie.Need-height-requires-2
-height_requires_2 c κs = search rules
-
-pub readings_spec : {M : Type 1} → statement M
-readings_spec =
-    tie.close
-    (tie.spec read_requires height_requires sub_read read_requires_2 height_requires_2 returns)
+pub height-requires-2 : goal.height-requires-2
+height-requires-2 c = search rules
