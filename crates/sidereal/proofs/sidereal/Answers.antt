@@ -7,8 +7,8 @@ use Rattle.rules.specs.Sidereal.{sidereal_at}
 use Rattle.polynomials.proofs.Tested.{Tested, tested, instant_refused_lem, instant_accepted, instant_in_range}
 use Rattle.sidereal.proofs.sidereal.Goals as goal
 use Rattle.sidereal.proofs.sidereal.Lts as lts
-use Rattle.sidereal.proofs.sidereal.Tie as tie
 use Rattle.sidereal.proofs.sidereal.Reads as reads
+use Rattle.sidereal.proofs.sidereal.Tie as tie
 
 pub instant_refused-requires : goal.instant_refused-requires
 instant_refused-requires c = search rules

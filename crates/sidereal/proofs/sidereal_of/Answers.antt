@@ -16,8 +16,8 @@ use Rattle.words.specs.Holds.{Holds, bits, ◌*ʷ◌, got, lit, add, add_ok, mul
 use Rattle.polynomials.proofs.Held.{instant_held}
 use Rattle.sidereal.proofs.sidereal_of.Goals as goal
 use Rattle.sidereal.proofs.sidereal_of.Lts as lts
-use Rattle.sidereal.proofs.sidereal_of.Tie as tie
 use Rattle.sidereal.proofs.sidereal_of.Reads as reads
+use Rattle.sidereal.proofs.sidereal_of.Tie as tie
 
 t_held : (c : goal.Start) → to_z w64 (of_z w64 c.args.t.0) ≡ c.args.t.0
 t_held c = instant_held c.args.t.0 c.requires

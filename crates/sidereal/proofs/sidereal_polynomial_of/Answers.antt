@@ -7,8 +7,8 @@ use Rattle.rules.specs.Sidereal.{sidereal_polynomial}
 use Rattle.polynomials.proofs.Held.{instant_held}
 use Rattle.sidereal.proofs.sidereal_polynomial_of.Goals as goal
 use Rattle.sidereal.proofs.sidereal_polynomial_of.Lts as lts
-use Rattle.sidereal.proofs.sidereal_polynomial_of.Tie as tie
 use Rattle.sidereal.proofs.sidereal_polynomial_of.Reads as reads
+use Rattle.sidereal.proofs.sidereal_polynomial_of.Tie as tie
 
 t_held : (c : lts.Start tie.the-claims reads.Pre reads.Post) → to_z w64 (of_z w64 c.args.t.0) ≡ c.args.t.0
 t_held c = instant_held c.args.t.0 c.requires
