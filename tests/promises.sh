@@ -189,7 +189,7 @@ while read -r source; do
         name=$crate::${module:+$module::}$name
         grep -q "\`$name\`" <<<"$inner" || fail "asks something, and is not on the page: $name"
     done < <(asking "$source")
-done < <(find crates -path 'crates/*/src/*' -name '*.rt' -not -path 'crates/*_c/*' | sort)
+done < <(find crates/*/src -name '*.rt' -not -path 'crates/*_c/*' | sort)
 for name in "${!exported[@]}"; do
     [ -z "${exported[$name]}" ] || fail "for C, and in no library: $name"
 done
