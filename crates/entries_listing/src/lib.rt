@@ -1,3 +1,5 @@
+#![tactic(auto)]
+
 // The entries of a list file, read and worked by the lists' own functions. They stand in an array,
 // which each function lends to its list.
 

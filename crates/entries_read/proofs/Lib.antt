@@ -1,2 +1,2 @@
--- what the walk needs of its plan
+-- what the loop needs of its plan
 pub mod Reading

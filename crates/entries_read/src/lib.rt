@@ -1,3 +1,5 @@
+#![tactic(auto)]
+
 // The star list file, read into lent entries.
 
 ghost use Rattle.std.specs.Prelude.{◌≡◌};

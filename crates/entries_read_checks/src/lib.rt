@@ -1,3 +1,5 @@
+#![tactic(auto)]
+
 // A list file read into entries: the checks before, and a record as an entry.
 
 ghost use Rattle.std.specs.Prelude.{◌≡◌, length, drop, ◌+◌, ◌*◌, ◌≤◌};

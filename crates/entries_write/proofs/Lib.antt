@@ -1,2 +1,2 @@
--- what the walks need of plans
-mod Writing
+-- what the loops need of plans
+pub mod Writing

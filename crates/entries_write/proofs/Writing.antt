@@ -1,4 +1,4 @@
--- What the walk of `write_list` needs: records put one by one are the file's, and what the plan says of lengths.
+-- What the loop of `write_list` needs: records put one by one are the file's, and what the plan says of lengths.
 use mathlib.Core.Path.{◌≡◌, refl, sym, ◌∙◌, ap, subst}
 use mathlib.Core.Bool.{Bool, true, false, ◌||◌}
 use mathlib.Core.List.{List, [], ◌∷◌, ◌++◌, append_assoc}
@@ -6,7 +6,9 @@ use Prim.Native.Nat.{ℕ, ◌+◌, ◌*◌, ◌<◌, ◌≤◌}
 use native.Mathlib.Omega.{arith}
 use native.Mathlib.Nat.{lt_irrefl}
 use lib.ListN.{length, get_or, take, drop, length-append, take-append-drop}
-use lib.Seq.{length-take-le, take-length, get_or-append_seam}
+use lib.Seq.{length-take-le, take-length}
+use Rattle.std.proofs.Math.Seq.{take-suc}
+use Rattle.std.proofs.Common.{suc}
 use Rattle.rules.specs.declared.Entry.{Entry}
 use Rattle.rules.specs.declared.Listed.{Listed}
 use Rattle.rules.specs.ListFile.{head_length, most_records, file_length, record_of, any_refused, record_at}
@@ -42,6 +44,22 @@ refused_more (p ∷ ps) e =
     or_assoc (star_refused p.star) (refused_all ps) (star_refused e.star)
     ∙ ap (λ t. star_refused p.star || t) (refused_more ps e)
 
+-- one entry more
+take_more : (i : ℕ) (xs : List Entry) (d : Entry) → i < length xs → take (i + 1) xs ≡ take i xs ++ (get_or xs i d ∷ [])
+take_more i xs d l =
+    let one : i + 1 ≡ suc i = omega arith in
+    ap (λ k. take k xs) one ∙ take-suc xs i d l
+
+pub refused_next : (i : ℕ) (xs : List Entry) (d : Entry) (before now : Bool) → i < length xs
+    → before ≡ refused_all (take i xs) → now ≡ before || star_refused (get_or xs i d).star
+    → now ≡ refused_all (take (i + 1) xs)
+refused_next i xs d before now l e f =
+    f ∙ ap (λ b. b || star_refused (get_or xs i d).star) e ∙ refused_more (take i xs) (get_or xs i d)
+    ∙ ap refused_all (sym (take_more i xs d l))
+
+pub refused_last : (i : ℕ) (xs : List Entry) → length xs ≡ i → refused_all (take i xs) ≡ refused_all xs
+refused_last i xs e = ap (λ k. refused_all (take k xs)) (sym e) ∙ ap refused_all (take-length xs)
+
 pub refused_none : false ≡ refused_all []
 unfolding any_refused stars_of
 refused_none = refl
@@ -51,27 +69,27 @@ abbrev pub put_all : ℕ → List Entry → List ℕ → List ℕ
 put_all i [] room = room
 put_all i (e ∷ es) room = put_all (i + 1) es (put room (record_at i) (record_of e.star))
 
--- those that are written and those to come are as many as the plan says
-pub taken_many : (k : ℕ) (xs ps zs : List Entry) → k ≤ length xs → ps ++ zs ≡ take k xs → length ps + length zs ≡ k
-taken_many k xs ps zs l e = sym (length-append ps zs) ∙ ap length e ∙ length-take-le k xs l
+put_more : (i : ℕ) (es : List Entry) (e : Entry) (room : List ℕ)
+    → put_all i (es ++ (e ∷ [])) room ≡ put (put_all i es room) (record_at (i + length es)) (record_of e.star)
+put_more i [] e room =
+    let here : i ≡ i + 0 = omega arith in
+    ap (λ k. put room (record_at k) (record_of e.star)) here
+put_more i (y ∷ es) e room =
+    let r = put room (record_at i) (record_of y.star) in
+    let next : (i + 1) + length es ≡ i + length (y ∷ es) = omega arith in
+    put_more (i + 1) es e r ∙ ap (λ k. put (put_all (i + 1) es r) (record_at k) (record_of e.star)) next
 
-taken_here : (k : ℕ) (xs ps : List Entry) (z : Entry) (zs : List Entry) → ps ++ (z ∷ zs) ≡ take k xs
-    → get_or xs (length ps) z ≡ z
-taken_here k xs ps z zs e =
-    ap (λ r. get_or r (length ps) z)
-    (sym (take-append-drop k xs) ∙ ap (λ r. r ++ drop k xs) (sym e) ∙ append_assoc ps (z ∷ zs) (drop k xs))
-    ∙ get_or-append_seam ps z (zs ++ drop k xs) z
-
-pub taken_next : (k : ℕ) (xs : List Entry) (room : List ℕ) (ps : List Entry) (z : Entry) (zs : List Entry)
-    (cur : List ℕ)
-    → ps ++ (z ∷ zs) ≡ take k xs → put_all (length ps) (z ∷ zs) cur ≡ put_all 0 (take k xs) room
-    → (c : List ℕ) → c ≡ put cur (record_at (length ps)) (record_of (get_or xs (length ps) z).star)
-    → put_all (length (ps ++ (z ∷ []))) zs c ≡ put_all 0 (take k xs) room
-taken_next k xs room ps z zs cur e done c f =
-    ap (λ j. put_all j zs c) (sym (snoc_length ps z))
-    ∙ ap (λ r. put_all (length ps + 1) zs r)
-    (f ∙ ap (λ (y : Entry). put cur (record_at (length ps)) (record_of y.star)) (taken_here k xs ps z zs e))
-    ∙ done
+-- the next of them is put
+pub put_next : (i : ℕ) (xs : List Entry) (d : Entry) (room cur : List ℕ) → i < length xs
+    → cur ≡ put_all 0 (take i xs) room
+    → put cur (record_at i) (record_of (get_or xs i d).star) ≡ put_all 0 (take (i + 1) xs) room
+put_next i xs d room cur l e =
+    let e' = get_or xs i d in
+    let count : length (take i xs) ≡ i = length-take-le i xs (omega (arith, l)) in
+    let at : i ≡ 0 + length (take i xs) = omega (arith, count) in
+    ap (λ r. put r (record_at i) (record_of e'.star)) e
+    ∙ ap (λ k. put (put_all 0 (take i xs) room) (record_at k) (record_of e'.star)) at
+    ∙ sym (put_more 0 (take i xs) e' room) ∙ ap (λ es. put_all 0 es room) (sym (take_more i xs d l))
 
 -- records put one by one are all of them put at once
 all_put : (i : ℕ) (es : List Entry) (room : List ℕ) → 7 + 24 * (i + length es) ≤ length room
@@ -146,13 +164,16 @@ module _ (xs : List Entry) (room : List ℕ) (plan : WritePlan)
   pub write_long : 0 < plan.todo → record_at plan.todo ≤ length room
   write_long = all.long
 
+  pub write_few : plan.todo ≤ most_records
+  write_few = all.few
+
   pub write_ready : (cur : List ℕ) → length cur ≡ length room → Ready plan (length cur)
   write_ready cur e = record { few = all.few; long = λ size h. omega (arith, all.head size h, e) }
 
   pub write_answer : plan.answer ≡ list_written xs room
   write_answer = ap (λ (p : WritePlan). p.answer) planned ∙ plan_answer xs room
 
-  -- what the walk leaves is what the rule says
-  pub write_after : (ps : List Entry) (cur : List ℕ) → put_all (length ps) [] cur ≡ put_all 0 (take plan.todo xs) room
+  -- what the loop and the head leave is what the rule says
+  pub write_after : (cur : List ℕ) → cur ≡ put_all 0 (take plan.todo xs) room
       → leaving plan.answer (put cur 0 (head_of plan.todo)) cur ≡ room_after_write xs room
-  write_after ps cur e = ap (λ r. leaving plan.answer (put r 0 (head_of plan.todo)) r) e ∙ all.after
+  write_after cur e = ap (λ r. leaving plan.answer (put r 0 (head_of plan.todo)) r) e ∙ all.after

@@ -1,3 +1,5 @@
+#![tactic(auto)]
+
 // The stars of lent entries, written as a list file.
 
 ghost use Rattle.std.specs.Prelude.{◌≡◌};

@@ -1,3 +1,5 @@
+#![tactic(auto)]
+
 // A list file written, but for its records: the checks before, and its head after.
 
 ghost use Rattle.std.specs.Prelude.{◌≡◌, ◌||◌, length};

@@ -3,7 +3,7 @@
 use Rattle.std.specs.Prelude.{◌≡◌, ℕ, List, [], ◌∷◌, ◌++◌}
 use Rattle.std.proofs.Common.{sym, ap, subst}
 use seplogic.Ra.Ura.{Ura}
-use mir.Syntax.{Name, Place, Opd as Operand, Body, seq, call}
+use mir.Syntax.{Callee as Called, Place, Opd as Operand, Body, seq, call}
 use mir.Val.{Val}
 use base.Logic.{SProp, ent, sep, emp, via, id⊢, assoc∗, mono_l, fst∗}
 use prog.Wp.{Env, Calls, Loops, eval_opds}
@@ -25,7 +25,7 @@ use Rattle.lent.specs.Callees.{tokens, each_token, Spelt, learnt, made, Callee, 
 use Rattle.lent.specs.Callees.{Ensures, by_ensures, GivesBack}
 
 module _ {M : Type 1} {𝓤 : Ura M} {𝓛 : Logic 𝓤} {K : Type 0} {Γ : List (Item 𝓤)}
-    {E : Env 𝓤 𝓛.H} {C : Calls 𝓤 𝓛.H} {f : Name} {xs : List Operand} where
+    {E : Env 𝓤 𝓛.H} {C : Calls 𝓤 𝓛.H} {f : Called} {xs : List Operand} where
   -- the rule itself: the entries at π become what the callee asks, and `kept`; `after v` runs once it has returned v
   open 𝓛 use {H}
 
@@ -45,7 +45,7 @@ module _ {M : Type 1} {𝓤 : Ura M} {𝓛 : Logic 𝓤} {K : Type 0} {Γ : List
         ∷ raw (⋆ 𝓛 kept) ∷ raw (⋆ 𝓛 (others 𝓛 π Γ)) ∷ []) (after v)
     returned v =
         use1 𝓛 (later (some (λ (r : R.Denot). (raw (alive 𝓛 T.signature y.0.0 y.0.1)
-        ⊛ ‵ (R.own r (v ∷ []))) ⊛ raw (ensured 𝓛 T c y.0.0 y.0.3 y.1 r)))) (id⊢ 𝓤 _) $
+        ⊛ ‵ (R.own_val r (v ∷ []))) ⊛ raw (ensured 𝓛 T c y.0.0 y.0.3 y.1 r)))) (id⊢ 𝓤 _) $
         await t (soaks v) $ pick t (λ r. split t $ move t (1 ∷ []) $
         use1 𝓛 (some (λ (ws : Left 𝓛 T c y). ‵ (lasts T y.0.0 y.0.3 ws)
         ⊛ raw ((c y.0.0 y.0.3).ensures y.1 r (at_exit T y.0.0 y.0.3 ws)))) (id⊢ 𝓤 _) $

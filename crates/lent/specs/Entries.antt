@@ -3,7 +3,7 @@
 use Rattle.std.specs.Prelude.{◌≡◌, refl, ℕ, ◌+◌, ◌*◌, ◌<◌, List, [], ◌∷◌, T, length, get_or, set}
 use Rattle.std.proofs.Common.{sym, ap, subst}
 use seplogic.Ra.Ura.{Ura}
-use seplogic.Ra.TreeShare.{full_share}
+use base.Fraction.{full_share}
 use mir.Syntax.{Ty}
 use mir.Raw.{raw as raw_ty}
 use mir.Val.{Val, WT, has_ty}
@@ -75,7 +75,7 @@ module _ {M : Type 1} {𝓤 : Ura M} {𝓛 : Logic 𝓤} {K : Type 0} {Γ : List
     look_entry =
         let p : ℕ = place (mem R).size o i in
         let v : Val = e.spelt.val (get_or ys i d) in
-        let Δ : List (Item 𝓤) = ‵ (cell_at q R.mir (v ∷ []) b p) ∷ ‵ (R.own (get_or ys i d) (v ∷ []))
+        let Δ : List (Item 𝓤) = ‵ (cell_at q R.mir (v ∷ []) b p) ∷ ‵ (R.own_val (get_or ys i d) (v ∷ []))
         ∷ ‵ (others (shares R) q ys i b o) ∷ del 𝓛 n Γ in
         let raw_cell : nth 𝓛 0 Δ ≡ ‵ (fat q (raw_ty e.τ) b p v) = ap (λ (F : Fml). ‵ F) (e.one q v b p) in
         let cell : Reads K 𝓛 Δ e.τ b p v = look_raw t 0 raw_cell in
@@ -97,7 +97,7 @@ module _ {M : Type 1} {𝓤 : Ura M} {𝓛 : Logic 𝓤} {K : Type 0} {Γ : List
       let p : ℕ = place (mem R).size o i in
       let r : Item 𝓤 = ‵ (row R full_share (set ys i x) b o) in
       let v₀ : Val = e.spelt.val (get_or ys i d) in
-      let F : Fml = R.own (get_or ys i d) (v₀ ∷ []) in
+      let F : Fml = R.own_val (get_or ys i d) (v₀ ∷ []) in
       let Θ : List (Item 𝓤) = ‵ F ∷ ‵ (others (shares R) full_share ys i b o) ∷ del 𝓛 n Γ in
       let Δ : List (Item 𝓤) = ‵ (cell_at full_share R.mir (v₀ ∷ []) b p) ∷ Θ in
       let raw_cell : nth 𝓛 0 Δ ≡ ‵ (fat full_share (raw_ty e.τ) b p v₀) = ap (λ (G : Fml). ‵ G)

@@ -1,6 +1,6 @@
 -- What a walk takes from the kit, by one name.
 -- resources
-pub use seplogic.Ra.TreeShare.{full_share}
+pub use base.Fraction.{full_share}
 pub use seplogic.Ra.Ura.{Ura}
 -- MIR and its values
 pub use mir.Syntax.{Ty, named, mut, imm, w64, ty_int, ty_bool, ty_ptr, ty_ref, Fn, local, value_local, erased, w32}
@@ -13,12 +13,13 @@ pub use prog.Memory.{Memory}
 pub use prog.Routine.{Routine}
 pub use prog.Wp.{Heap, Out, Env, after_seq, after_block, Calls, Loops, Wp, at_return, WpFn, Tables}
 -- ghost state
-pub use ghost.Atoms.{Atoms, sem}
+pub use ghost.Atoms.{Atoms}
+pub use Rattle.std.specs.Borrow.{sem}
 -- contracts and routines
 pub use contract.Monad.{Fun, fact_i}
-pub use contract.Running.{given_of, tables}
+pub use contract.Running.{tables}
 -- the calculus, and the rules of the code
-pub use types.Kit.{Given, Item, Sq, runs, ‵, ◌⊛◌, ⋆, any_q, at_ret, ◌$◌, ◌∵◌, !, qed, by, move, keep, split, join}
+pub use types.Kit.{Item, Sq, runs, ‵, ◌⊛◌, ⋆, any_q, at_ret, ◌$◌, ◌∵◌, !, qed, by, move, keep, split, join}
 pub use types.Kit.{rewrite, fsplit, fjoin, suffices, frame, done, drop}
 pub use types.Part.{whole, sub, look_in, agg}
 pub use types.Run.{look, init, forget, stop, hop, fld, from, load, lit, of_opd, bin, and_then, no_more, assigns, stays}

@@ -2,7 +2,7 @@
 -- entry, and freed at once at the return.
 use Rattle.std.specs.Prelude.{refl, ℕ, List, [], ◌∷◌}
 use seplogic.Ra.Ura.{Ura}
-use seplogic.Ra.TreeShare.{full_share}
+use base.Fraction.{full_share}
 use mir.Syntax.{Ty, Local, local}
 use mir.Val.{Val}
 use base.Logic.{ent, sep, via, id⊢, mono_r, assoc'}
@@ -108,9 +108,10 @@ module _ {M : Type 1} {𝓤 : Ura M} {𝓛 : Logic 𝓤} {K : Type 0} where
   pub allocs_all : K → {Γ : List (Item 𝓤)} (ls : List Local) {Kt : Env 𝓤 H → Goal 𝓤 H}
       → ((p : Places ls) → Seq K 𝓛 (locals (env ls p) [] Γ) (Kt (env ls p))) → Seq K 𝓛 Γ (allocs ls Kt)
   allocs_all t [] k = alloc0 t $ nothing t $ k tt
-  allocs_all t {Γ} (local τ h ∷ ls) {Kt} k = alloc1 t (λ b. allocs_all t ls (λ p. record {
-    prf = via 𝓤 (⋆ 𝓛 (locals ((τ, b) ∷ env ls p) [] Γ)) (one_more 𝓛 (env ls p) (τ, b) Γ) (k (b, p)).prf;
-  }))
+  allocs_all t {Γ} (local τ h ∷ ls) {Kt} k = alloc1 t (λ b.
+      allocs_all t {Γ = cell (τ, b) empty ∷ ‵ (fdies τ b) ∷ Γ} ls (λ p. record {
+        prf = via 𝓤 (⋆ 𝓛 (locals ((τ, b) ∷ env ls p) [] Γ)) (one_more 𝓛 (env ls p) (τ, b) Γ) (k (b, p)).prf;
+      }))
 
   freed : K → {Γ : List (Item 𝓤)} (E : List (Ty × ℕ)) (hs : List Content) {g : Goal 𝓤 H}
       → Step K 𝓛 Γ g (ends E ∷ cells E hs Γ) (frees E g)

@@ -5,9 +5,13 @@ use seplogic.Ra.Ura.{Ura}
 use mir.Syntax.{Ty, w64, ty_int}
 use mir.Val.{Val, vbool, vint, WT, has_ty}
 use types.Logic.{Logic}
+use denote.RattleType.{RowLaws}
 use Rattle.std.specs.Borrow.{RattleType, bool, usize}
+use denote.Copied.{Copied}
 use denote.Laws.{Is, Makes, Copy}
 use denote.Plain.{bool_Tells, uint_Tells}
+use denote.Struct.Declared.{shape}
+use denote.Struct.Struct.{Struct-row_laws}
 use denote.Struct.Laws as LL
 use denote.Enum.Laws as EL
 use Rattle.lent.specs.Callees.{Spelt}
@@ -62,12 +66,21 @@ ListedTy = L'.mir
 abbrev pub listeds : Spelt ListedRow
 listeds = record { val = EL.val L.the_type L'.the_laws; tells = EL.tells L.the_type L'.the_laws }
 
+-- the laws of the row of entries, which today's record of a row doesn't hold
+pub entry_laws : RowLaws EntryRow
+entry_laws x b o =
+    Struct-row_laws (shape E.the_type) (LL.copy_row_laws (E.the_type).parts E'.the_copy) ((E.the_type).to x) b o
+
 module _ {M : Type 1} {𝓤 : Ura M} (𝓛 : Logic 𝓤) where
   pub entry_made : Makes 𝓛 EntryRow (Is EntryRow)
   entry_made = LL.makes E.the_type E'.the_plain 𝓛
 
   pub entry_copied : Copy 𝓛 EntryRow
   entry_copied = LL.copy E.the_type E'.the_copy 𝓛
+
+  -- and a share of an entry in memory is cut, joined and looked into
+  pub entry_shared : Copied 𝓛 EntryRow
+  entry_shared = LL.copied E.the_type E'.the_copy 𝓛
 
   pub listed_made : Makes 𝓛 ListedRow (Is ListedRow)
   listed_made = EL.makes L.the_type L'.the_plain 𝓛

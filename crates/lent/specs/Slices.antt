@@ -3,7 +3,7 @@
 use Rattle.std.specs.Prelude.{◌≡◌, ℕ, List, [], ◌∷◌, length}
 use Rattle.std.proofs.Common.{sym, ap, subst}
 use seplogic.Ra.Ura.{Ura}
-use seplogic.Ra.TreeShare.{full_share}
+use base.Fraction.{full_share}
 use mir.Syntax.{Lifetime}
 use mir.Val.{Val}
 use base.Logic.{SProp, ent, sep, ex, emp, via, id⊢, mono_r, fst∗, snd∗}
@@ -12,20 +12,23 @@ use contract.Monad.{fact}
 use types.Logic.{Logic, sem}
 use types.Kit.{Item, ‵, raw, ◌⊛◌, mean, ⋆, ◌$◌, ◌∵◌, !, qed, move, keep, use0, use1, drop, split, join, fsplit}
 use types.Kit.{fjoin, frame, updating, now as at_once, show, done}
-use denote.RattleType.{RattleType, Denots, Valss, owns}
+use denote.RattleType.{RattleType, RowLaws, Denots, Valss, owns}
 use denote.Shadow.{pure_l, pure_i}
-use denote.Laws.{Is, Ises, Are, Makess, Copy, shows, owns_make}
-use denote.Memory.{shares}
+use denote.Laws.{Ises, Are, Makess, owns_make}
 use Rattle.std.specs.Borrow.{Bor, MutBor}
 use denote.Slice.{slice_val, MutSlice, ShrSlice, Room, finally, heres, coded_holeys, shr_slice_at, mut_slice_at, shr_slice_copy}
 use denote.Lend.{Held}
+use denote.Opens.{Shut}
+use denote.Copied.{Copied}
 use denote.Index.{row, opens_slice, closes_slice, looks_slice, shuts_slice}
-use types.Share.{arr_parts}
-use Rattle.lent.specs.Entries.{Element}
 
 -- a reference to the list xs at (b, o), under the name γ
 abbrev pub at : {X : Type 0} → ℕ → ℕ → GName → List X → MutBor (List X)
 at b o γ xs = record { ref_ptr = (b, o); ghost_name = γ; now = xs }
+
+-- a `&` to it, which has no name
+abbrev pub at_shared : {X : Type 0} → ℕ → ℕ → List X → Bor (List X)
+at_shared b o xs = record { ref_ptr = (b, o); now = xs }
 
 module _ {M : Type 1} {𝓤 : Ura M} where
   -- what is had of a `&mut [T]` while it is open, beside the row
@@ -62,17 +65,22 @@ module _ {M : Type 1} {𝓤 : Ura M} (𝓛 : Logic 𝓤) (ℓ : Lifetime) (κ : 
   abbrev pub Lent : Item 𝓤
   Lent = ‵ ((ShrSlice ℓ κ R).own_val x (s ∷ []))
 
-  -- a callee is passed a copy of it, and plain data after it, and is required what `asks` shows
-  pub shared : (Rs : List RattleType) → Makess 𝓛 Rs (Ises Rs) → (a : Denots Rs) (vss : Valss Rs)
+  -- a callee is passed a copy of it, and plain data after it, and is required what `asks` shows. `laws` are those of
+  -- R's row, which its record doesn't hold
+  pub shared : RowLaws R → (Rs : List RattleType) → Makess 𝓛 Rs (Ises Rs) → (a : Denots Rs) (vss : Valss Rs)
       → Are Rs (Ises Rs) a vss → {P : SProp 𝓤} → ent 𝓤 (emp 𝓤) P
       → ent 𝓤 (⋆ 𝓛 (Lent ∷ ‵ (flft κ q) ∷ []))
       (sep 𝓤 (sep 𝓤 (sep 𝓤 (sep 𝓤 (A.lft κ q) (emp 𝓤))
       (sem 𝓛 (owns (ShrSlice ℓ κ R ∷ Rs) (x, a) (s ∷ [], vss)))) P) (⋆ 𝓛 (Lent ∷ [])))
-  shared Rs mk a vss are {P} asks = qed 𝓛 (Lent ∷ ‵ (flft κ q) ∷ []) ∵
-      use1 𝓛 (Lent ⊛ Lent) ((shr_slice_copy 𝓛 ℓ κ R).twice x (s ∷ [])) $ split ! $
+  shared laws Rs mk a vss are {P} asks = qed 𝓛 (Lent ∷ ‵ (flft κ q) ∷ []) ∵
+      use1 𝓛 (Lent ⊛ Lent) ((shr_slice_copy 𝓛 ℓ κ R laws).twice x (s ∷ [])) $ split ! $
       use0 𝓛 (‵ (owns Rs a vss)) (owns_make 𝓛 Rs (Ises Rs) mk a vss are) $ move ! (1 ∷ 0 ∷ []) $ fjoin ! $
       use0 𝓛 (raw P) asks $ use0 𝓛 (raw (emp 𝓤)) (id⊢ 𝓤 (emp 𝓤)) $
       move ! (4 ∷ 0 ∷ []) $ join ! $ move ! (0 ∷ 2 ∷ []) $ join ! $ move ! (0 ∷ 1 ∷ []) $ join ! $ frame ! $ done !
+
+module _ {M : Type 1} {𝓤 : Ura M} (𝓛 : Logic 𝓤) (ℓ : Lifetime) (κ : Lft) (q : Share)
+    (R : RattleType) (x : MutBor (List R.Denot)) (s : Val) where
+  open 𝓛 use {A}
 
   -- a callee is passed a `&mut [T]` at the lifetime κ, and plain data after it
   pub given_over : (Rs : List RattleType) → Makess 𝓛 Rs (Ises Rs) → (a : Denots Rs) (vss : Valss Rs)
@@ -88,24 +96,23 @@ module _ {M : Type 1} {𝓤 : Ura M} (𝓛 : Logic 𝓤) (ℓ : Lifetime) (κ : 
 
 -- a `&[T]` is looked into, which takes the lifetime's token: some share of its row is had, and what shuts it again
 module _ {M : Type 1} {𝓤 : Ura M} (𝓛 : Logic 𝓤) (ℓ : Lifetime) (κ : Lft) (q : Share)
-    {R : RattleType} (e : Element R) (copy : Copy 𝓛 R) (b o : ℕ) (γ : GName) (xs : List R.Denot) where
+    {R : RattleType} (laws : RowLaws R) (copied : Copied 𝓛 R) (b o : ℕ) (xs : List R.Denot) where
   open 𝓛 use {H}
 
   abbrev pub looked : Share → Item 𝓤
-  looked q' = ‵ (fobor κ q ((arr_parts (shares R) (length xs)).part q' xs b o))
+  looked q' = Shut 𝓛 κ q (row R q' xs b o)
 
   abbrev slice : Item 𝓤
-  slice = Lent 𝓛 ℓ κ q R (at b o γ xs) (slice_val (b, o) (length xs))
+  slice = Lent 𝓛 ℓ κ q R (at_shared b o xs) (slice_val (b, o) (length xs))
 
   abbrev pub Looked : Share → List (Item 𝓤)
   Looked q' = looked q' ∷ slice ∷ ‵ (row R q' xs b o) ∷ []
 
   pub looks : ent 𝓤 (⋆ 𝓛 (slice ∷ ‵ (flft κ q) ∷ [])) (H.⇛ (ex 𝓤 (λ (q' : Share). ⋆ 𝓛 (Looked q'))))
   looks = qed 𝓛 (slice ∷ ‵ (flft κ q) ∷ []) ∵ updating ! $
-      use1 𝓛 (slice ⊛ slice) ((shr_slice_copy 𝓛 ℓ κ R).twice (at b o γ xs) (slice_val (b, o) (length xs) ∷ [])) $
-      split ! $ fsplit ! $ pure_l ! (shr_slice_at R (at b o γ xs) (slice_val (b, o) (length xs) ∷ [])) (λ _. fsplit ! $
-      drop ! $ move ! (0 ∷ 2 ∷ []) $
-      looks_slice ! tt R (Is R) (shows 𝓛 R) (λ x. e.spelt.val x ∷ []) e.spelt.tells copy xs b o (λ q'.
+      use1 𝓛 (slice ⊛ slice) ((shr_slice_copy 𝓛 ℓ κ R laws).twice (at_shared b o xs) (slice_val (b, o) (length xs) ∷ [])) $
+      split ! $ fsplit ! $ pure_l ! (shr_slice_at R (at_shared b o xs) (slice_val (b, o) (length xs) ∷ [])) (λ _.
+      move ! (0 ∷ 2 ∷ []) $ looks_slice ! tt R copied xs b o (λ q'.
       at_once ! $ show ! (λ (s : Share). ⋆ 𝓛 (Looked s)) q' $ keep ! (1 ∷ 3 ∷ 0 ∷ []) $ done !))
 
   pub shuts : (q' : Share) → ent 𝓤 (⋆ 𝓛 (looked q' ∷ ‵ (row R q' xs b o) ∷ [])) (H.⇛ (⋆ 𝓛 (‵ (flft κ q) ∷ [])))

@@ -3,7 +3,7 @@ use Rattle.std.specs.Prelude.{◌≡◌, ℕ, ◌+◌, ◌<◌, ◌≤◌, true,
 use Rattle.std.proofs.Common.{sym, ap, subst, lt-ltb, le-ltb}
 use Rattle.std.proofs.Math.Option.{some}
 use seplogic.Ra.Ura.{Ura}
-use seplogic.Ra.TreeShare.{full_share}
+use base.Fraction.{full_share}
 use mir.Syntax.{Sym, Ty, Tys, ty_struct, field, Place, place, copy, Rv as RValue, Body, seq, assign}
 use mir.Val.{Val, Vals, vbool, vstruct, WT, has_ty}
 use mir.Fields.{get_v, set_v}

@@ -1,3 +1,3 @@
--- what the walk needs of lists, and of its plan
+-- what the loop needs of lists, and of its plan
 pub mod Lists
 pub mod Planned

@@ -1,4 +1,4 @@
--- What the walk of `night_list` needs of lists: how many are worked, and how many of a list are filled.
+-- What the loop of `night_list` needs of lists: how many are worked, and how many of a list are filled.
 use mathlib.Core.Path.{◌≡◌, refl, sym, ap}
 use mathlib.Core.Bool.{Bool, true, false, cond}
 use mathlib.Core.List.{List, [], ◌∷◌, ◌++◌, map}

@@ -1,3 +1,5 @@
+#![tactic(auto)]
+
 // The night list: entries worked where they stand.
 
 ghost use Rattle.std.specs.Prelude.{◌≡◌};

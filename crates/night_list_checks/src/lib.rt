@@ -1,3 +1,5 @@
+#![tactic(auto)]
+
 // The night list but for its walk: the checks before, an entry worked by its value, the answer.
 
 ghost use Rattle.std.specs.Prelude.{◌≡◌, cond, pos, nat_abs, ◌+ℤ◌, ◌≤ℤ◌, ◌<◌, ◌^◌};

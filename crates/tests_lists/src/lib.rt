@@ -1,3 +1,5 @@
+#![tactic(auto)]
+
 // Functions for the tests alone: the functions over lent entries, of the crates `entries_read`,
 // `entries_write` and `night_list`, which `module` does not show. It is not shipped.
 
