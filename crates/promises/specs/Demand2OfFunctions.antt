@@ -36,7 +36,7 @@ use Rattle.laws.specs.RefusalNumbers.{number_pos}
 use Rattle.answers.specs.Answers.{placed_out, read_out}
 use Rattle.laws.specs.PlaceAnswers.{read_of, read_again}
 use Rattle.answers.specs.declared.places.TurbelicusPlaced.{TurbelicusPlaced}
-use Rattle.promises.specs.Contracts.{Tells, so_told}
+use Rattle.promises.specs.OfContracts.{Tells, so_told}
 use Rattle.promises.specs.ByContract as answers
 use Rattle.promises.specs.ByContractForC as answers_for_c
 use Rattle.promises.specs.Demand2.{Within2, cosine_within_4, sine_within_4, PlaceInRange}

@@ -21,7 +21,7 @@ use Rattle.laws.specs.WayBack.{append_accepted, way_back_accepted, turned_by_acc
 use Rattle.answers.specs.Given.{direction_of}
 use Rattle.answers.specs.Answers.{turned_out}
 use Rattle.answers.specs.declared.turns.TurbelicusTurned.{TurbelicusTurned}
-use Rattle.promises.specs.Contracts.{Tells, so_told}
+use Rattle.promises.specs.OfContracts.{Tells, so_told}
 use Rattle.promises.specs.Calls.{Each, Call, all_told, all_tell}
 use Rattle.promises.specs.ByContract.{turn_contract, turn_answers}
 use Rattle.promises.specs.ByContractForC.{turbelicus_turn_contract, turbelicus_turn_answers}

@@ -23,7 +23,7 @@ use Rattle.laws.specs.Ranges.{Between}
 use Rattle.laws.specs.ClockOrder.{Earlier}
 use Rattle.answers.specs.Given.{tt_of}
 use Rattle.answers.specs.Answers.{clocked_out}
-use Rattle.promises.specs.Contracts.{Tells, so_told, together}
+use Rattle.promises.specs.OfContracts.{Tells, so_told, together}
 use Rattle.promises.specs.Calls.{Call, told}
 use Rattle.promises.specs.ByContract as answers
 use Rattle.promises.specs.ByContractForC as answers_for_c

@@ -33,7 +33,7 @@ use Rattle.answers.specs.declared.turns.TurbelicusRead.{TurbelicusRead}
 use Rattle.answers.specs.declared.places.TurbelicusPlaced.{TurbelicusPlaced}
 use Rattle.answers.specs.declared.observed.TurbelicusObserved.{TurbelicusObserved}
 use Rattle.answers.specs.Answers.{read_out, placed_out, observed_out}
-use Rattle.promises.specs.Contracts.{Tells, so_told}
+use Rattle.promises.specs.OfContracts.{Tells, so_told}
 use Rattle.promises.specs.ByContract as answers
 use Rattle.promises.specs.ByContractForC as answers_for_c
 use Rattle.promises.specs.Demand1.Weather.{place_untouched}

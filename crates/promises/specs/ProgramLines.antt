@@ -21,7 +21,7 @@ use Rattle.line_reads.specs.Reads.{header_line, printed_by, none, answers_of, st
 use Rattle.line_reads.specs.Inputs.{ToTheEnd, GoingOn, answers_of_all}
 use Rattle.laws.specs.PuttingBytes.{front_of}
 use Rattle.line_reads.specs.Cuts.{printed_of_reads, printed_so_far}
-use Rattle.promises.specs.Contracts.{AsksNothing, Tells, so_told, clauses_told, together}
+use Rattle.promises.specs.OfContracts.{AsksNothing, Tells, so_told, clauses_told, together}
 use Rattle.promises.specs.Calls.{Each, Call, told, all_told, all_tell}
 use Rattle.line_reads.specs.contracts.begin as begin
 use Rattle.line_reads.specs.contracts.answer_read as answer_read

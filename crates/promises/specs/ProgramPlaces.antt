@@ -15,7 +15,7 @@ use Rattle.input.specs.Input.{line_with_end}
 use Rattle.line_places.specs.declared.air.Air.{Air}
 use Rattle.line_places.specs.Program.{first_line, places}
 use Rattle.line_places.specs.Cuts.{file_kept, line_kept, input_cut, file_cut}
-use Rattle.promises.specs.Contracts.{AsksNothing, Tells, clauses_told}
+use Rattle.promises.specs.OfContracts.{AsksNothing, Tells, clauses_told}
 use Rattle.input.specs.contracts.read_file as read_file
 use Rattle.input.specs.contracts.read_line as read_line
 use Rattle.entries_listing.specs.contracts.read as read

@@ -20,7 +20,7 @@ use Rattle.rules.specs.Refraction.{observed_altitude}
 use Rattle.laws.specs.Weather.{FieldsInRange}
 use Rattle.stars.specs.Numbers.{star_of}
 use Rattle.answers.specs.Given.{moment_of, site_of}
-use Rattle.promises.specs.Contracts.{Tells, so_told, together}
+use Rattle.promises.specs.OfContracts.{Tells, so_told, together}
 use Rattle.promises.specs.Calls.{Call, told}
 use Rattle.promises.specs.ByContract as answers
 use Rattle.promises.specs.ByContractForC as answers_for_c

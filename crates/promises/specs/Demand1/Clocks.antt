@@ -22,7 +22,7 @@ use Rattle.laws.specs.Checks.{FirstGiven, NoneGiven}
 use Rattle.answers.specs.declared.clocks.TurbelicusClocked.{TurbelicusClocked}
 use Rattle.answers.specs.Given.{tt_of}
 use Rattle.answers.specs.Answers.{clocked_out}
-use Rattle.promises.specs.Contracts.{Tells, so_told}
+use Rattle.promises.specs.OfContracts.{Tells, so_told}
 use Rattle.promises.specs.ByContract as answers
 use Rattle.promises.specs.ByContractForC as answers_for_c
 use Rattle.promises.specs.Demand1.Checks.{stretch_checks}

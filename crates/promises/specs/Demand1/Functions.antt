@@ -25,7 +25,7 @@ use Rattle.rules.specs.declared.Refusal.{Refusal}
 use Rattle.rules.specs.declared.Listed.{Listed}
 use Rattle.rules.specs.declared.ListedStar.{ListedStar}
 use Rattle.laws.specs.Checks.{FirstGiven}
-use Rattle.promises.specs.Contracts.{Tells, so_told}
+use Rattle.promises.specs.OfContracts.{Tells, so_told}
 use Rattle.promises.specs.ByContract as answers
 use Rattle.promises.specs.Demand1.Checks as checks
 use Rattle.promises.specs.Demand1.InOrder.{Refuses, Keeps}

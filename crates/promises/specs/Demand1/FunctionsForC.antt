@@ -13,7 +13,7 @@ use Rattle.stars.specs.Numbers.{star_of}
 use Rattle.rules.specs.declared.Refusal.{Refusal}
 use Rattle.laws.specs.Checks.{FirstGiven}
 use Rattle.answers.specs.Given.{moment_of, site_of, direction_of, weather_of}
-use Rattle.promises.specs.Contracts.{Tells, so_told}
+use Rattle.promises.specs.OfContracts.{Tells, so_told}
 use Rattle.promises.specs.ByContractForC as answers
 use Rattle.promises.specs.Demand1.Checks.{record_checks, kind_checks, observed_checks}
 use Rattle.promises.specs.Demand1.Checks.{place_checks, turn_checks, file_checks, star_checks, row_checks}

@@ -20,7 +20,7 @@ use Rattle.rules.specs.declared.Placed.{Placed}
 use Rattle.rules.specs.declared.Listed.{Listed}
 use Rattle.rules.specs.declared.ListedStar.{ListedStar}
 use Rattle.rules.specs.Refusals.{number}
-use Rattle.promises.specs.Contracts.{Tells, so_told}
+use Rattle.promises.specs.OfContracts.{Tells, so_told}
 use Rattle.promises.specs.Demand1.Checks as checks
 use Rattle.promises.specs.Demand1.Thirteen.{Never13, never_13}
 use Rattle.promises.specs.Demand1.Functions as told

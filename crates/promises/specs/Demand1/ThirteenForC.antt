@@ -15,7 +15,7 @@ use Rattle.rules.specs.Refusals.{number}
 use Rattle.rules.specs.Answers.{weathered_number}
 use Rattle.answers.specs.Answers.{record_out, weathered_out, altitude_out, observed_out}
 use Rattle.answers.specs.Answers.{placed_out, turned_out, counted_out, starred_out, written_out}
-use Rattle.promises.specs.Contracts.{Tells}
+use Rattle.promises.specs.OfContracts.{Tells}
 use Rattle.promises.specs.Demand1.Turns.{turn_answer}
 use Rattle.promises.specs.Demand1.Places.{place_answer}
 use Rattle.promises.specs.Demand1.Weather.{altitude_answer, observed_place_answer}

@@ -5,7 +5,7 @@ use prog.Memory.{Memory}
 use prog.Routine.{Routine}
 use types.Logic.{Logic}
 use contract.Monad.{Fun}
-use Rattle.promises.specs.Contracts.{OneAnswerAndContent, one_both, one_content}
+use Rattle.promises.specs.OfContracts.{OneAnswerAndContent, one_both, one_content}
 use Rattle.list_records.specs.contracts.put_star as put_star
 use Rattle.list_records.specs.contracts.put_record as put_record
 use Rattle.list_records.specs.contracts.put_head as put_head

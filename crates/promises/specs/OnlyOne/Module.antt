@@ -5,7 +5,7 @@ use prog.Memory.{Memory}
 use prog.Routine.{Routine}
 use types.Logic.{Logic}
 use contract.Monad.{Fun}
-use Rattle.promises.specs.Contracts.{OneAnswer, OneAnswerAndContent, one, one_both}
+use Rattle.promises.specs.OfContracts.{OneAnswer, OneAnswerAndContent, one, one_both}
 use Rattle.module.specs.contracts.clocks.turbelicus_utc as turbelicus_utc
 use Rattle.module.specs.contracts.lists.turbelicus_list_count as turbelicus_list_count
 use Rattle.module.specs.contracts.lists.turbelicus_list_star as turbelicus_list_star

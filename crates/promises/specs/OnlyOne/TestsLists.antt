@@ -5,7 +5,7 @@ use prog.Memory.{Memory}
 use prog.Routine.{Routine}
 use types.Logic.{Logic}
 use contract.Monad.{Fun}
-use Rattle.promises.specs.Contracts.{OneAnswerAndContent, one_both}
+use Rattle.promises.specs.OfContracts.{OneAnswerAndContent, one_both}
 use Rattle.tests_lists.specs.contracts.tests_list_read as tests_list_read
 use Rattle.tests_lists.specs.contracts.tests_list_write as tests_list_write
 use Rattle.tests_lists.specs.contracts.tests_night_list as tests_night_list

@@ -15,7 +15,7 @@ use Rattle.rules.specs.Calendar.{date_of}
 use Rattle.rules.specs.ListReading.{fresh_entry}
 use Rattle.rules.specs.ListWriting.{stars_of}
 use Rattle.laws.specs.Bytes.{Bytes}
-use Rattle.promises.specs.Contracts.{together}
+use Rattle.promises.specs.OfContracts.{together}
 use Rattle.promises.specs.Calls.{Call, told}
 use Rattle.promises.specs.RoundTrips as rules
 use Rattle.entries_read.specs.contracts.read_list as read_list

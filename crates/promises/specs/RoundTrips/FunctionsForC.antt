@@ -24,7 +24,7 @@ use Rattle.answers.specs.declared.lists.TurbelicusCounted.{TurbelicusCounted}
 use Rattle.answers.specs.declared.lists.TurbelicusStarred.{TurbelicusStarred}
 use Rattle.answers.specs.declared.lists.TurbelicusWritten.{TurbelicusWritten}
 use Rattle.answers.specs.Answers.{counted_out, starred_out, written_out}
-use Rattle.promises.specs.Contracts.{all_together}
+use Rattle.promises.specs.OfContracts.{all_together}
 use Rattle.promises.specs.Calls.{Call, told, all_told, all_tell, Each}
 use Rattle.promises.specs.RoundTrips as rules
 use Rattle.module.specs.contracts.lists.turbelicus_list_count as turbelicus_list_count
