@@ -9,7 +9,7 @@ use rules::Clocked;
 // The refusal's number and noughts, or 0 and the UTC date and time of day. Seven numbers of 32 bits
 // would leave half a word that says nothing, so ms has 64.
 #[repr(C)]
-#[derive(Drop)]
+#[derive(Clone, Copy)]
 pub struct TurbelicusClocked {
     pub refused: i64,
     pub year: i32,

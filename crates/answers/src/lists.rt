@@ -8,7 +8,7 @@ use rules::{Listed, ListedStar};
 
 // The refusal's number and nought, or 0 and the number of records.
 #[repr(C)]
-#[derive(Drop)]
+#[derive(Clone, Copy)]
 pub struct TurbelicusCounted {
     pub refused: i64,
     pub count: usize,
@@ -16,7 +16,7 @@ pub struct TurbelicusCounted {
 
 // The refusal's number and noughts, or 0 and the star; angles in µas, motions in µas a year.
 #[repr(C)]
-#[derive(Drop)]
+#[derive(Clone, Copy)]
 pub struct TurbelicusStarred {
     pub refused: i64,
     pub ra: i64,
@@ -27,7 +27,7 @@ pub struct TurbelicusStarred {
 
 // The refusal's number and nought, or 0 and the file's length in bytes.
 #[repr(C)]
-#[derive(Drop)]
+#[derive(Clone, Copy)]
 pub struct TurbelicusWritten {
     pub refused: i64,
     pub length: usize,

@@ -9,7 +9,7 @@ use rules::Angle;
 
 // The refusal's number and nought, or 0 and the altitude in µas.
 #[repr(C)]
-#[derive(Drop)]
+#[derive(Clone, Copy)]
 pub struct TurbelicusAltitude {
     pub refused: i64,
     pub altitude: i64,
@@ -17,7 +17,7 @@ pub struct TurbelicusAltitude {
 
 // The refusal's number and noughts, or 0, the place with its flags, and the observed altitude in µas.
 #[repr(C)]
-#[derive(Drop)]
+#[derive(Clone, Copy)]
 pub struct TurbelicusObserved {
     pub refused: i64,
     pub ra: i64,

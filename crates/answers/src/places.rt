@@ -12,7 +12,7 @@ use rules::{Place, Placed};
 // The refusal's number and noughts, or 0 and the place in µas. A flag is 1 where there is an angle,
 // and 0, with nought in its place, where there is none.
 #[repr(C)]
-#[derive(Drop)]
+#[derive(Clone, Copy)]
 pub struct TurbelicusPlaced {
     pub refused: i64,
     pub ra: i64,

@@ -10,7 +10,7 @@ use rules::{Refusal, Weather, Weathered};
 
 // 0 or 14, and the record: with the reading, or as it was. A flag is 1 where a reading has come.
 #[repr(C)]
-#[derive(Drop)]
+#[derive(Clone, Copy)]
 pub struct TurbelicusWeathered {
     pub refused: i64,
     pub pressure: f32,

@@ -8,7 +8,7 @@ use rules::{Read, Turned};
 
 // The refusal's number and noughts, or 0 and the direction in parts of 2^30.
 #[repr(C)]
-#[derive(Drop)]
+#[derive(Clone, Copy)]
 pub struct TurbelicusTurned {
     pub refused: i64,
     pub x: i64,
@@ -18,7 +18,7 @@ pub struct TurbelicusTurned {
 
 // 1 and the angle in µas, or noughts where there is none.
 #[repr(C)]
-#[derive(Drop)]
+#[derive(Clone, Copy)]
 pub struct TurbelicusRead {
     pub angle: i64,
     pub has_angle: i64,

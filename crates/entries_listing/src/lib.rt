@@ -11,7 +11,7 @@ use rules::{Angles, Entry, Listed, Moment, Site, Star};
 use units::MOST_RECORDS;
 
 // What a list answered, and the entries as it left them.
-#[derive(Drop)]
+#[derive(Clone, Copy)]
 pub struct Listing {
     pub answer: Listed,
     pub entries: [Entry; MOST_RECORDS],

@@ -10,7 +10,7 @@ use rules::{Angles, Entry, Listed, Refusal};
 use units::{HEAD_BYTES, RECORD_BYTES};
 
 // What the checks of a file came to: its answer, and how many records are to be read.
-#[derive(Drop)]
+#[derive(Clone, Copy)]
 pub struct ReadPlan {
     pub answer: Listed,
     pub todo: usize,

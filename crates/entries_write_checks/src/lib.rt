@@ -13,7 +13,7 @@ use stars::star_refused;
 use units::{HEAD_BYTES, MOST_RECORDS, RECORD_BYTES};
 
 // What the checks of a list came to: its answer, and how many records are to be written.
-#[derive(Drop)]
+#[derive(Clone, Copy)]
 pub struct WritePlan {
     pub answer: Listed,
     pub todo: usize,

@@ -6,7 +6,7 @@ ghost use Rattle.input.specs.Input.{FileRead, LineRead};
 
 // What a reader leaves: how many bytes stand at the front of the room, and whether all could be
 // read. Where a read fails, none.
-#[derive(Drop)]
+#[derive(Clone, Copy)]
 pub struct Read {
     pub length: usize,
     pub is_read: bool,

@@ -8,7 +8,7 @@ use numerals::{of_number, signed};
 use rules::{Line, Moment, Site};
 
 // A line of `places`.
-#[derive(Drop)]
+#[derive(Clone, Copy)]
 pub enum Asked {
     For(Moment, Site),
     Other,

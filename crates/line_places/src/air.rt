@@ -1,7 +1,7 @@
 // What a command says of the air.
 
 // Nothing, or pressure and temperature, in tenths of hPa and of degrees.
-#[derive(Drop)]
+#[derive(Clone, Copy)]
 pub enum Air {
     Unknown,
     Of(i64, i64),

@@ -7,7 +7,7 @@ use crate::air::Air;
 use numerals::tenths::{of_tenths, tenths_of};
 
 // A command: whether angles are printed for people, and the air; or one of another form.
-#[derive(Drop)]
+#[derive(Clone, Copy)]
 pub enum Command {
     For(bool, Air),
     Other,

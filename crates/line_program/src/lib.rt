@@ -10,7 +10,7 @@ ghost use Rattle.line_program.specs.Turns.{Handed, Turned};
 use line_reads::{Program, Start, answer_read, begin};
 
 // What a turn leaves: the start of the line that its read broke off in, and whether to go on.
-#[derive(Drop)]
+#[derive(Clone, Copy)]
 struct Turn {
     start: Start,
     more: bool,

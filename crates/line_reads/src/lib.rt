@@ -15,7 +15,7 @@ mod programs;
 mod starts;
 
 // The program whose lines are answered.
-#[derive(Drop)]
+#[derive(Clone, Copy)]
 pub enum Program {
     Times,
     Dates,
@@ -23,7 +23,7 @@ pub enum Program {
 
 // The start of a line: its first bytes, as many as there is room for. A longer line is of another
 // form, and so is its start, so nothing is lost.
-#[derive(Drop)]
+#[derive(Clone, Copy)]
 pub struct Start {
     bytes: [u8; 32],
     len: usize,
@@ -31,7 +31,7 @@ pub struct Start {
 
 // What a read leaves: the start of the line that it breaks off in, and how many bytes of answers
 // stand at the front of the room.
-#[derive(Drop)]
+#[derive(Clone, Copy)]
 pub struct AfterRead {
     pub start: Start,
     pub written: usize,

@@ -17,7 +17,7 @@ use units::MOST_RECORDS;
 
 // What the checks of a list came to: its night, how many entries it has, and how many are to be
 // worked: all, or none where the list is refused.
-#[derive(Drop)]
+#[derive(Clone, Copy)]
 pub struct NightPlan {
     pub night: Prepared,
     pub count: usize,

@@ -1,3 +1,5 @@
+#![tactic(auto)]
+
 // The whole root, downward. No sum or product on the way passes an i64.
 
 ghost use Rattle.std.specs.Prelude.{◌≡◌, ℤ, pos, nat_abs, ◌≤ℤ◌};

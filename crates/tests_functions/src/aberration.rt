@@ -12,7 +12,7 @@ use rules::{Refusal, Tt};
 
 // The refusal's number and noughts, or 0, bx and by, and the three numbers that are added.
 #[repr(C)]
-#[derive(Drop)]
+#[derive(Clone, Copy)]
 pub struct TestsAberration {
     pub refused: i64,
     pub bx: i64,

@@ -12,7 +12,7 @@ use rules::{FiveArguments, Nutated, Precessed, Tt};
 
 // The refusal's number and noughts, or 0 and the angles of precession.
 #[repr(C)]
-#[derive(Drop)]
+#[derive(Clone, Copy)]
 pub struct TestsPrecessed {
     pub refused: i64,
     pub zeta: i64,
@@ -22,7 +22,7 @@ pub struct TestsPrecessed {
 
 // The refusal's number and noughts, or 0 and l, l', F, D, Ω.
 #[repr(C)]
-#[derive(Drop)]
+#[derive(Clone, Copy)]
 pub struct TestsFiveArguments {
     pub refused: i64,
     pub l: i64,
@@ -34,7 +34,7 @@ pub struct TestsFiveArguments {
 
 // The refusal's number and noughts, or 0 and Δψ, Δε.
 #[repr(C)]
-#[derive(Drop)]
+#[derive(Clone, Copy)]
 pub struct TestsNutated {
     pub refused: i64,
     pub longitude: i64,

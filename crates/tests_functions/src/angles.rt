@@ -15,7 +15,7 @@ use rules::{Angle, Refusal, Tt, Ut};
 
 // The refusal's number and noughts, or 0 and the angle.
 #[repr(C)]
-#[derive(Drop)]
+#[derive(Clone, Copy)]
 pub struct TestsAngle {
     pub refused: i64,
     pub angle: i64,

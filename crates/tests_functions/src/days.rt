@@ -10,7 +10,7 @@ use rules::{Date, Dated, Numbered};
 
 // The refusal's number and nought, or 0 and the day number.
 #[repr(C)]
-#[derive(Drop)]
+#[derive(Clone, Copy)]
 pub struct TestsDay {
     pub refused: i64,
     pub day: i64,
@@ -18,7 +18,7 @@ pub struct TestsDay {
 
 // The refusal's number and noughts, or 0 and the date.
 #[repr(C)]
-#[derive(Drop)]
+#[derive(Clone, Copy)]
 pub struct TestsDate {
     pub refused: i64,
     pub year: i64,

@@ -9,7 +9,7 @@ use rules::{Date, Instants, Moment, Time};
 
 // The refusal's number and noughts, or 0 and UT, TT.
 #[repr(C)]
-#[derive(Drop)]
+#[derive(Clone, Copy)]
 pub struct TestsInstants {
     pub refused: i64,
     pub ut: i64,

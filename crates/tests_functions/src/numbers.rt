@@ -6,7 +6,7 @@ ghost use Rattle.tests_functions.specs.Numbers.{product_tried, whole_root_tried,
 
 // What a rule gives: met is 1 and value its answer where its conditions hold, else both are 0.
 #[repr(C)]
-#[derive(Drop)]
+#[derive(Clone, Copy)]
 pub struct Tried {
     pub met: i64,
     pub value: i64,

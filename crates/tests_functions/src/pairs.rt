@@ -5,7 +5,7 @@ ghost use Rattle.tests_functions.specs.Pairs.{tests_pair};
 
 // Cosine and sine, in parts of 2^30.
 #[repr(C)]
-#[derive(Drop)]
+#[derive(Clone, Copy)]
 pub struct TestsPair {
     pub cosine: i64,
     pub sine: i64,

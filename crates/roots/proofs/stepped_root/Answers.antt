@@ -15,8 +15,7 @@ use Rattle.words.specs.Fits.{held64}
 use Rattle.words.specs.Holds.{Holds, bits, ◌+ʷ◌, ◌-ʷ◌, ◌*ʷ◌, ◌/ʷ◌, got, lit, bounded, add, add_ok, sub_nat, sub_nat_ok}
 use Rattle.words.specs.Holds.{mul, mul_ok, div_ok, div_lit}
 use Rattle.laws.specs.Root.{from_root, is_root}
-use Rattle.roots.proofs.stepped_root.Statement.{statement}
-use Rattle.roots.proofs.stepped_root.Tie as tie
+use Rattle.roots.proofs.stepped_root.Goals as goal
 
 -- ---- squares near 2^60
 
@@ -32,90 +31,90 @@ above n a w q t e h k = omega (arith, times a w (q + t) e, two_products_le w (q 
 
 -- ---- what the word holds
 
-abbrev number : tie.Start → ℕ
+abbrev number : goal.Start → ℕ
 number c = nat_abs c.args.n
 
-abbrev wide : tie.Start → ℕ
+abbrev wide : goal.Start → ℕ
 wide c = nat_abs c.args.w
 
-abbrev base : tie.Start → ℕ
+abbrev base : goal.Start → ℕ
 base c = 2 ^ 30 - wide c
 
-abbrev over : tie.Start → ℕ
+abbrev over : goal.Start → ℕ
 over c = number c - base c * base c
 
-abbrev steps : tie.Start → ℕ
+abbrev steps : goal.Start → ℕ
 steps c = over c / 2147483648
 
-base_is : (c : tie.Start) → base c + wide c ≡ 2 ^ 30
+base_is : (c : goal.Start) → base c + wide c ≡ 2 ^ 30
 base_is c = omega (arith, c.requires.w_le)
 
-number_le : (c : tie.Start) → number c ≤ 2 ^ 61
+number_le : (c : goal.Start) → number c ≤ 2 ^ 61
 number_le c =
     let le : base c ≤ 2 ^ 30 = omega arith in
     omega (arith, mul-le-mul le le, c.requires.near.high, c.requires.w_le)
 
-number_holds : (c : tie.Start) → Holds (bits c.args.n) (pos (number c)) (2 ^ 61)
+number_holds : (c : goal.Start) → Holds (bits c.args.n) (pos (number c)) (2 ^ 61)
 number_holds c = got c.requires.near.is (number_le c) tt
 
-w_holds : (c : tie.Start) → Holds (bits c.args.w) (pos (wide c)) (2 ^ 18)
+w_holds : (c : goal.Start) → Holds (bits c.args.w) (pos (wide c)) (2 ^ 18)
 w_holds c = got c.requires.w_is c.requires.w_le tt
 
-w_le : (c : tie.Start) → wide c ≤ 2 ^ 30
+w_le : (c : goal.Start) → wide c ≤ 2 ^ 30
 w_le c = omega (arith, c.requires.w_le)
 
-sub_base : tie.Need-overflow-sub-base
-sub_base c = sub_nat_ok (lit (2 ^ 30) tt) (w_holds c) (w_le c) tt
+pub overflow_sub-base : goal.overflow_sub-base
+overflow_sub-base c = sub_nat_ok (lit (2 ^ 30) tt) (w_holds c) (w_le c) tt
 
-base_holds : (c : tie.Start) → Holds (2 ^ 30 -ʷ bits c.args.w) (pos (base c)) (2 ^ 30)
+base_holds : (c : goal.Start) → Holds (2 ^ 30 -ʷ bits c.args.w) (pos (base c)) (2 ^ 30)
 base_holds c = sub_nat (lit (2 ^ 30) tt) (w_holds c) (w_le c) tt
 
-mul_root_from : tie.Need-overflow-mul-root-from
-mul_root_from c = mul_ok (base_holds c) (base_holds c) tt
+pub overflow_mul-base : goal.overflow_mul-base
+overflow_mul-base c = mul_ok (base_holds c) (base_holds c) tt
 
-abbrev square : tie.Start → ℕ
+abbrev square : goal.Start → ℕ
 square c = (2 ^ 30 -ʷ bits c.args.w) *ʷ (2 ^ 30 -ʷ bits c.args.w)
 
-square_holds : (c : tie.Start) → Holds (square c) (pos (base c * base c)) (2 ^ 60)
+square_holds : (c : goal.Start) → Holds (square c) (pos (base c * base c)) (2 ^ 60)
 square_holds c = mul (base_holds c) (base_holds c) tt
 
-sub_root_from : tie.Need-overflow-sub-root-from
-sub_root_from c = sub_nat_ok (number_holds c) (square_holds c) c.requires.near.low tt
+pub overflow_sub-n : goal.overflow_sub-n
+overflow_sub-n c = sub_nat_ok (number_holds c) (square_holds c) c.requires.near.low tt
 
-over_holds : (c : tie.Start) → Holds (bits c.args.n -ʷ square c) (pos (over c)) (2 ^ 50)
+over_holds : (c : goal.Start) → Holds (bits c.args.n -ʷ square c) (pos (over c)) (2 ^ 50)
 over_holds c = bounded (2 ^ 50) (sub_nat (number_holds c) (square_holds c) c.requires.near.low tt)
     (omega (arith, c.requires.near.high, c.requires.w_le))
 
-div_root_from : tie.Need-nonzero-div-root-from
-div_root_from c = div_ok (over_holds c) (lit 2147483648 tt) (lt_z_yes tt) tt
+pub nonzero_div-n : goal.nonzero_div-n
+nonzero_div-n c = div_ok (over_holds c) (lit 2147483648 tt) (lt_z_yes tt) tt
 
-steps_holds : (c : tie.Start) → Holds ((bits c.args.n -ʷ square c) /ʷ 2147483648) (pos (steps c)) (2 ^ 19)
+steps_holds : (c : goal.Start) → Holds ((bits c.args.n -ʷ square c) /ʷ 2147483648) (pos (steps c)) (2 ^ 19)
 steps_holds c = div_lit 2147483648 (over_holds c) tt tt tt
 
-add_root_from : tie.Need-overflow-add-root-from
-add_root_from c = add_ok (base_holds c) (steps_holds c) tt
+pub overflow_add-base : goal.overflow_add-base
+overflow_add-base c = add_ok (base_holds c) (steps_holds c) tt
 
-low_holds : (c : tie.Start)
+low_holds : (c : goal.Start)
     → Holds (2 ^ 30 -ʷ bits c.args.w +ʷ (bits c.args.n -ʷ square c) /ʷ 2147483648) (pos (base c + steps c))
     (2 ^ 31)
 low_holds c = bounded (2 ^ 31) (add (base_holds c) (steps_holds c) tt)
     (omega (arith, (steps_holds c).size))
 
-low_below : (c : tie.Start) → (base c + steps c) * (base c + steps c) ≤ number c
+low_below : (c : goal.Start) → (base c + steps c) * (base c + steps c) ≤ number c
 low_below c =
     let most : over c / 2147483648 < 2 * wide c + 1 = (div-lt_iff_lt-mul {k = 2147483648} {x = over c}
     {y = 2 * wide c + 1} (omega arith)).1 (omega (arith, c.requires.near.high)) in
     not_above (number c) (base c) (wide c) (steps c) (base_is c) (omega (arith, most))
     (omega (arith, c.requires.near.low, div-mul-le_self (over c) 2147483648))
 
-low_near : (c : tie.Start)
+low_near : (c : goal.Start)
     → number c < (base c + steps c + 2 ^ c.requires.trials) * (base c + steps c + 2 ^ c.requires.trials)
 low_near c =
     above (number c) (base c) (wide c) (steps c) (2 ^ c.requires.trials) (base_is c) c.requires.enough
     (omega (arith, lt-div-mul-add {a = over c} {b = 2147483648} (omega arith)))
 
-root_from_requires : tie.Need-root-from-requires
-root_from_requires c κs =
+pub root_from-requires : goal.root_from-requires
+root_from-requires c =
     rw ((low_holds c).value, to_z-of_z c.ranges.n, to_z-of_z c.ranges.power) (record {
       number = rw c.requires.near.is (record { le = le→leb 0 (number c) (omega arith) });
       low_is = refl;
@@ -134,19 +133,7 @@ root_from_requires c κs =
     few : 2 ^ c.requires.trials ≤ 2 ^ 6
     few = pow_mono c.requires.trials_le
 
-returns : tie.Need-returns
+pub returns : goal.returns
 returns c =
-    held64 c.root-from.result c.root-from.type-inv
-    ∙ rw (to_z-of_z c.before.ranges.n) at c.root-from.ensures
-
-pub stepped_root_spec : {M : Type 1} → statement M
-stepped_root_spec =
-    tie.close
-    (tie.spec
-    sub_base
-    mul_root_from
-    sub_root_from
-    div_root_from
-    add_root_from
-    root_from_requires
-    returns)
+    held64 c.root_from.result c.root_from.type_inv
+    ∙ rw (to_z-of_z c.before.ranges.n) at c.root_from.ensures

@@ -14,17 +14,16 @@ use Rattle.rules.specs.ManualRoot.{binary_digits, trials, first_power}
 use Rattle.laws.specs.ManualRoot.{trials_le}
 use Rattle.words.specs.Fits.{size64_lt, fits64}
 use Rattle.words.specs.Holds.{Holds, bits, ◌+ʷ◌, ◌-ʷ◌, ◌/ʷ◌, lit, nat, add, add_ok, sub_nat, sub_nat_ok, div, div_ok}
-use Rattle.roots.proofs.first_power.Statement.{statement}
-use Rattle.roots.proofs.first_power.Tie as tie
+use Rattle.roots.proofs.first_power.Goals as goal
 
-abbrev number : tie.Start → ℕ
+abbrev number : goal.Start → ℕ
 number c = nat_abs c.args.n
 
-number_lt : (c : tie.Start) → number c < 2 ^ 64
+number_lt : (c : goal.Start) → number c < 2 ^ 64
 number_lt c = omega (arith, size64_lt c.args.n c.ranges.n c.requires)
 
-cast_word : tie.Need-overflow-cast-word
-cast_word c = rw (to_z-of_z c.ranges.n) (yes_non_neg c.requires, record { fits = number_lt c })
+pub overflow_cast-word : goal.overflow_cast-word
+overflow_cast-word c = rw (to_z-of_z c.ranges.n) (yes_non_neg c.requires, record { fits = number_lt c })
 
 -- ---- leading zeros and binary digits of any word
 
@@ -60,40 +59,27 @@ power_holds m = shifted ((64 -ʷ count_leading_zeros 64 m +ʷ 1) /ʷ 2) (trials 
 
 -- ---- the needs
 
-cast_digits : tie.Need-overflow-cast-digits
-cast_digits c = zeros_fit _
+pub overflow_cast-digits : goal.overflow_cast-digits
+overflow_cast-digits c = zeros_fit _
 
-sub_digits : tie.Need-overflow-sub-digits
-sub_digits c = sub_nat_ok (lit 64 tt) (zeros_hold _) (leading_le 64 _) tt
+pub overflow_sub-digits : goal.overflow_sub-digits
+overflow_sub-digits c = sub_nat_ok (lit 64 tt) (zeros_hold _) (leading_le 64 _) tt
 
-add_root_digits : tie.Need-overflow-add-root-digits
-add_root_digits c = add_ok (digits_hold _) (lit 1 tt) tt
+pub overflow_add-root_digits : goal.overflow_add-root_digits
+overflow_add-root_digits c = add_ok (digits_hold _) (lit 1 tt) tt
 
-div_root_digits : tie.Need-nonzero-div-root-digits
-div_root_digits c = div_ok (sum_holds _) (lit 2 tt) (lt_z_yes tt) tt
+pub nonzero_div-root_digits : goal.nonzero_div-root_digits
+nonzero_div-root_digits c = div_ok (sum_holds _) (lit 2 tt) (lt_z_yes tt) tt
 
-shl_result : tie.Need-overflow-shl-result
-shl_result c = shift_fits _
+pub overflow_shl-result : goal.overflow_shl-result
+overflow_shl-result c = shift_fits _
 
-div_result : tie.Need-nonzero-div-result
-div_result c = div_ok (power_holds _) (lit _ tt) (lt_z_yes tt) tt
+pub nonzero_div-result : goal.nonzero_div-result
+nonzero_div-result c = div_ok (power_holds _) (lit _ tt) (lt_z_yes tt) tt
 
-returns : tie.Need-returns
+pub returns : goal.returns
 unfolding first_power
 returns c =
     let word = ap nat_abs (to_z-of_z c.ranges.n) in
     (div (power_holds (nat_abs (to_z w64 (bits c.args.n)))) (lit 2 tt) (lt_z_yes tt) tt).value
     ∙ ap (λ m. pos (2 ^ trials m / 2)) word
-
-pub first_power_spec : {M : Type 1} → statement M
-first_power_spec =
-    tie.close
-    (tie.spec
-    cast_word
-    cast_digits
-    sub_digits
-    add_root_digits
-    div_root_digits
-    shl_result
-    div_result
-    returns)

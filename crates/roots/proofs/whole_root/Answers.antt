@@ -10,8 +10,7 @@ use Rattle.rules.specs.ManualRoot.{trials, first_power, manual_root}
 use Rattle.laws.specs.ManualRoot.{trials_le, manual_root_lem}
 use Rattle.words.specs.Fits.{size64_lt, held64}
 use Rattle.roots.specs.Trials.{Left}
-use Rattle.roots.proofs.whole_root.Statement.{statement}
-use Rattle.roots.proofs.whole_root.Tie as tie
+use Rattle.roots.proofs.whole_root.Goals as goal
 
 all_left : (n : ℕ) → n < 2 ^ 63 → Left n 0 (first_power n) (trials n)
 unfolding first_power manual_root
@@ -19,14 +18,14 @@ all_left n h =
     let le : 2 ^ trials n ≤ 2 ^ 32 = pow_mono (trials_le n) in
     record { is = refl; le = trials_le n; within = omega arith; makes = manual_root_lem n (omega arith) }
 
-first_power_requires : tie.Need-first-power-requires
-first_power_requires c κs = search rules
+pub first_power-requires : goal.first_power-requires
+first_power-requires c = search rules
 
-root_from_requires : tie.Need-root-from-requires
-root_from_requires c κs =
+pub root_from-requires : goal.root_from-requires
+root_from-requires c =
     let b = c.before in
-    let first = rw (to_z-of_z b.ranges.n) at c.first-power.ensures in
-    rw (to_z-of_z b.ranges.n, held64 c.first-power.result c.first-power.type-inv, first) (record {
+    let first = rw (to_z-of_z b.ranges.n) at c.first_power.ensures in
+    rw (to_z-of_z b.ranges.n, held64 c.first_power.result c.first_power.type_inv, first) (record {
       number = b.requires;
       low_is = refl;
       power_is = refl;
@@ -34,10 +33,7 @@ root_from_requires c κs =
       left = all_left (nat_abs b.args.n) (size64_lt b.args.n b.ranges.n b.requires);
     })
 
-returns : tie.Need-returns
+pub returns : goal.returns
 returns c =
-    held64 c.root-from.result c.root-from.type-inv
-    ∙ rw (to_z-of_z c.before.before.ranges.n) at c.root-from.ensures
-
-pub whole_root_spec : {M : Type 1} → statement M
-whole_root_spec = tie.close (tie.spec first_power_requires root_from_requires returns)
+    held64 c.root_from.result c.root_from.type_inv
+    ∙ rw (to_z-of_z c.before.before.ranges.n) at c.root_from.ensures
