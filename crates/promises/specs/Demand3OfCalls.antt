@@ -68,6 +68,8 @@ module _ {C : Type 0} (form : Form C) where
       → Chained v ts cs → Each Follows cs
       → Each form.Kept cs × (turned_by ts (Turned.To v) ≡ Turned.To (arrived v cs))
   followed [] none v h [] chain fs = (tt, refl)
+  followed [] none v h (c ∷ cs) chain fs = absurd chain
+  followed (t ∷ ts) (more k ks) v h [] chain fs = absurd chain
   followed (t ∷ ts) (more k ks) v h (c ∷ cs) chain fs =
       let a = turned_by_accepted (t ∷ []) (more k none) v h in
       let rule : turned (form.turn c).axis (form.turn c).angle (form.from c) ≡ Turned.To a.direction =
