@@ -24,7 +24,7 @@ FUNCTION = re.compile(
 )
 
 # the form of a contract: the lemma of OfContracts.antt that serves it, and how many arguments are found by the prover
-LEMMAS = {"one": 1, "one_and": 3, "one_both": 4, "one_each": 4, "one_content": 3}
+LEMMAS = {"one": 1, "one_and": 3, "one_and_content": 4, "one_each": 4, "one_content": 3}
 
 
 def crates():
@@ -55,7 +55,7 @@ def lemma_of(written, answers, ensures):
         return "one_and" if len(ensures) == 1 and "×" in ensures[0] else "one"
     if not answers:
         return "one_content"
-    return "one_each" if len(ensures) == 2 else "one_both"
+    return "one_each" if len(ensures) == 2 else "one_and_content"
 
 
 def theorem(name, given, answers, clauses):

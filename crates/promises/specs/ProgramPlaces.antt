@@ -70,8 +70,13 @@ module _ {M : Type 1} {𝓤 : Ura M} (𝓛 : Logic 𝓤) (mem : Memory → SProp
       (λ κs passed a x. (file input : List ℕ)
       → passed.0.now ≡ kept_of_file file → passed.1.0.now ≡ kept_of_input input
       → take a x.1.1.1.1.0.now ≡ places passed.1.1.0 passed.1.1.1.0 file input)
+  unfolding places
   places_tells κs passed g a x = clauses_told 𝓤 (λ e f file input h k.
-      printed a _ _ _ e f ∙ rw (h, k) (kept_decides passed.1.1.0 passed.1.1.1.0 file input))
+      let decides : places passed.1.1.0 passed.1.1.1.0 (kept_of_file file) (kept_of_input input)
+      ≡ places passed.1.1.0 passed.1.1.1.0 file input =
+      file_cut passed.1.1.0 passed.1.1.1.0 file (kept_of_input input)
+      ∙ input_cut passed.1.1.0 passed.1.1.1.0 file (line_with_end input) ∙ rw (first_line_same input) in
+      printed a _ _ _ e f ∙ rw (h, k) decides)
 
   -- ---- what is read: no more than the room holds, and of a line what would be kept of it again
 

@@ -19,6 +19,7 @@ use Rattle.rules.specs.Years.{up_from}
 use Rattle.rules.specs.ListReading.{list_count, list_star}
 use Rattle.rules.specs.ListWriting.{numbers_written, room_after_numbers}
 use Rattle.laws.specs.Bytes.{Bytes}
+use Rattle.laws.specs.NumbersRoundTrip as numbers_round_trip
 use Rattle.laws.specs.RefusalNumbers.{number_pos}
 use Rattle.answers.specs.declared.lists.TurbelicusCounted.{TurbelicusCounted}
 use Rattle.answers.specs.declared.lists.TurbelicusStarred.{TurbelicusStarred}
@@ -131,7 +132,7 @@ module _ {M : Type 1} {𝓤 : Ura M} (𝓛 : Logic 𝓤) (mem : Memory → SProp
       let row : writes.passed.0.now ≡ rules.numbers_in file n =
       asked.handed ∙ row_told file stars asked.of_file q
       ∙ ap (flat_map (λ i. (listed_star_answer (list_star file i)).values)) asked.by_index in
-      let back = rules.stars_then_written file byte n count room asked.room in
+      let back = numbers_round_trip.stars_then_written file byte n count room asked.room in
       (r.0 ∙ rw row (ap (λ l. written_out (listed_answer l)) back.0), r.1 ∙ rw row back.1))
 
   -- ---- written and read back star by star
