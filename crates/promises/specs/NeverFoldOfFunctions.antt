@@ -2,7 +2,6 @@
 -- times, and `utc::utc_of_tt` before or after it. `turbelicus_utc` gives the same numbers to C.
 use Rattle.std.specs.Prelude.{◌≡◌, ℤ, ◌<ℤ◌}
 use Rattle.std.proofs.Common.{sym, ◌∙◌}
-use Rattle.std.proofs.Math.Path.{ap}
 use seplogic.Ra.Ura.{Ura}
 use base.Logic.{SProp, ent, id⊢}
 use prog.Memory.{Memory}
@@ -15,22 +14,17 @@ use Rattle.rules.specs.declared.Utc.{Utc}
 use Rattle.rules.specs.declared.Instants.{Instants}
 use Rattle.rules.specs.declared.Clocked.{Clocked}
 use Rattle.rules.specs.Units.{+◌, −◌}
-use Rattle.rules.specs.Refusals.{given}
-use Rattle.rules.specs.Answers.{utc_numbers, clocked_answer}
+use Rattle.rules.specs.Answers.{utc_numbers}
 use Rattle.rules.specs.Dates.{ut_of}
 use Rattle.rules.specs.Utc.{moment_with, utc_of}
 use Rattle.laws.specs.Ranges.{Between}
 use Rattle.laws.specs.ClockOrder.{Earlier}
 use Rattle.laws.specs.NeverFold as law
-use Rattle.answers.specs.Given.{tt_of}
-use Rattle.answers.specs.Answers.{clocked_out}
-use Rattle.promises.specs.OfContracts.{Tells, so_told, together}
+use Rattle.promises.specs.OfContracts.{together}
 use Rattle.promises.specs.Calls.{Call, told}
-use Rattle.promises.specs.Demand1.Clocks.{utc_given}
 use Rattle.promises.specs.NeverFold as rules
 use Rattle.instants.specs.contracts.instants as instants
 use Rattle.utc.specs.contracts.utc_of_tt as utc_of_tt_lem
-use Rattle.module.specs.contracts.clocks.turbelicus_utc as turbelicus_utc
 
 module _ {M : Type 1} {𝓤 : Ura M} (𝓛 : Logic 𝓤) (mem : Memory → SProp 𝓤) (run : Routine → Fun 𝓤) where
   abbrev pub InstantsCall : Type 0
@@ -76,21 +70,4 @@ module _ {M : Type 1} {𝓤 : Ura M} (𝓛 : Logic 𝓤) (mem : Memory → SProp
       (fact 𝓤 (there.answer ≡ Instants.At (ut_of (moment_with u d)) back.passed.0))
   utc_then_instants back there u d e h f = together 𝓤 (id⊢ 𝓤 _) (id⊢ 𝓤 _) (λ p q.
       q ∙ rw f (rules.utc_then_tt back.passed.0 u (sym p ∙ e) d h))
-
   -- ---- of each TT of the stretch
-
-  -- the one UTC time that it comes from
-  pub utc_of_tt_one : Tells 𝓤 utc_of_tt_lem.ended (utc_of_tt_lem.clauses 𝓛 mem run)
-      (λ κs passed a x. (h : rules.InStretch passed.0)
-      → a ≡ Clocked.At (rules.from_exactly_one passed.0 h).utc)
-  utc_of_tt_one κs passed g a x = so_told 𝓤 (id⊢ 𝓤 _)
-      (λ e h. e ∙ (rules.from_exactly_one passed.0 h).answered)
-
-  -- what C gets: 0 and its seven numbers
-  pub turbelicus_utc_one : Tells 𝓤 turbelicus_utc.ended (turbelicus_utc.clauses 𝓛 mem run)
-      (λ κs passed a x. (h : rules.InStretch (tt_of passed.0))
-      → a ≡ utc_given (rules.from_exactly_one (tt_of passed.0) h).utc)
-  unfolding clocked_out clocked_answer given
-  turbelicus_utc_one κs passed g a x =
-      so_told 𝓤 (id⊢ 𝓤 _)
-      (λ e h. e ∙ ap (λ c. clocked_out (clocked_answer c)) (rules.from_exactly_one (tt_of passed.0) h).answered)

@@ -18,7 +18,6 @@ use Rattle.rules.specs.declared.FiveArguments.{FiveArguments}
 use Rattle.rules.specs.declared.Nutated.{Nutated}
 use Rattle.rules.specs.declared.Turned.{Turned}
 use Rattle.rules.specs.declared.Prepared.{Prepared}
-use Rattle.rules.specs.declared.Placed.{Placed}
 use Rattle.rules.specs.declared.Weathered.{Weathered}
 use Rattle.rules.specs.declared.Weather.{Weather}
 use Rattle.rules.specs.declared.Refusal.{Refusal}
@@ -35,7 +34,6 @@ use Rattle.promises.specs.Demand1.Places as places
 use Rattle.promises.specs.Demand1.Weather as weather
 use Rattle.promises.specs.Demand1.Lists as lists
 use Rattle.promises.specs.Demand1.Writing as writing
-use Rattle.promises.specs.Demand1.NightList as night_lists
 use Rattle.calendar.specs.contracts.day_of as day_of_lem
 use Rattle.calendar.specs.contracts.date_of as date_of_lem
 use Rattle.instants.specs.contracts.instants as instants
@@ -47,7 +45,6 @@ use Rattle.sun.specs.contracts.sun_longitude as sun_longitude_lem
 use Rattle.sun.specs.contracts.perihelion.perihelion as perihelion
 use Rattle.sidereal.specs.contracts.sidereal as sidereal
 use Rattle.turning.specs.contracts.turn as turn
-use Rattle.place.specs.contracts.place as place
 use Rattle.night.specs.contracts.night_of as night_of_lem
 use Rattle.weather.specs.contracts.kept.take_from as take_from
 use Rattle.refraction.specs.contracts.observed.observed_altitude as observed_altitude_lem
@@ -56,7 +53,6 @@ use Rattle.list_file.specs.contracts.list_star as list_star_lem
 use Rattle.entries_read.specs.contracts.read_list as read_list
 use Rattle.entries_write.specs.contracts.write_list as write_list
 use Rattle.list_from_numbers.specs.contracts.list_write as list_write
-use Rattle.night_list.specs.contracts.night_list as night_list_lem
 
 module _ {M : Type 1} {𝓤 : Ura M} (𝓛 : Logic 𝓤) (mem : Memory → SProp 𝓤) (run : Routine → Fun 𝓤) where
   -- ---- dates and instants
@@ -120,11 +116,6 @@ module _ {M : Type 1} {𝓤 : Ura M} (𝓛 : Logic 𝓤) (mem : Memory → SProp
   turn_tells κs passed g a x = so_told 𝓤 (id⊢ 𝓤 _)
       (λ e r. rw e (turns.turn_refused_lem passed.1.0 passed.1.1.0 passed.0 r))
 
-  pub place_tells : Tells 𝓤 place.ended (place.clauses 𝓛 mem run)
-      (λ κs passed a x. Refuses a Placed.Refused (checks.place_checks passed.0 passed.1.0 passed.1.1.0))
-  place_tells κs passed g a x = so_told 𝓤 (id⊢ 𝓤 _)
-      (λ e r. rw e (places.place_refused_lem passed.0 passed.1.0 passed.1.1.0 r))
-
   pub night_of_tells : Tells 𝓤 night_of_lem.ended (night_of_lem.clauses 𝓛 mem run)
       (λ κs passed a x. Refuses a Prepared.Refused (checks.night_checks passed.0 passed.1.0))
   night_of_tells κs passed g a x = so_told 𝓤 (id⊢ 𝓤 _)
@@ -183,15 +174,5 @@ module _ {M : Type 1} {𝓤 : Ura M} (𝓛 : Logic 𝓤) (mem : Memory → SProp
   list_write_tells κs passed g a x = so_told 𝓤 (id⊢ 𝓤 _) (λ e. (
     λ r. rw e.0 (writing.row_refused_lem passed.0.now passed.1.0.now r),
     λ r f. e.1 ∙ writing.row_content passed.0.now passed.1.0.now
-    ∙ first_kept (checks.row_checks passed.0.now passed.1.0.now) passed.1.0.now _ r f,
-  ))
-
-  pub night_list_tells : Tells 𝓤 night_list_lem.ended (night_list_lem.clauses 𝓛 mem run)
-      (λ κs passed a x.
-      Refuses a Listed.Refused (checks.night_list_checks passed.0 passed.1.0 passed.1.1.0.now)
-      × Keeps passed.1.1.0.now x.1.1.0.now
-      (checks.night_list_checks passed.0 passed.1.0 passed.1.1.0.now))
-  night_list_tells κs passed g a x = so_told 𝓤 (id⊢ 𝓤 _) (λ e. (
-    λ r. rw e.0 (night_lists.night_list_refused passed.0 passed.1.0 passed.1.1.0.now r),
-    λ r f. e.1 ∙ night_lists.night_list_kept passed.0 passed.1.0 passed.1.1.0.now r f,
+        ∙ first_kept (checks.row_checks passed.0.now passed.1.0.now) passed.1.0.now _ r f,
   ))
