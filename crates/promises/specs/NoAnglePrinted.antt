@@ -1,13 +1,6 @@
 -- Change C-12 in what `places` prints: a dash where a place has no angle, and there alone.
-use Rattle.std.specs.Prelude.{◌≡◌, false, List, ℕ, ℤ}
+use Rattle.std.specs.Prelude.{List, ℕ, ℤ}
 use Rattle.rules.specs.declared.Read.{Read}
-use Rattle.rules.specs.declared.Moment.{Moment}
-use Rattle.rules.specs.declared.Star.{Star}
-use Rattle.rules.specs.declared.Site.{Site}
-use Rattle.rules.specs.declared.Night.{Night}
-use Rattle.rules.specs.declared.Prepared.{Prepared}
-use Rattle.rules.specs.Night.{night_of}
-use Rattle.rules.specs.Stars.{star_refused}
 use Rattle.line_entries.specs.EntryLine.{dash}
 
 -- what is printed of a right ascension or an azimuth

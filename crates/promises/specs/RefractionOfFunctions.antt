@@ -1,7 +1,7 @@
 -- Change C-11 of the functions themselves, by their contracts: whatever is passed, the record that is answered has its
 -- fields in range and is taken back as it is; an observed altitude is what `RefractionAnswers` says of it; and two calls
 -- with one record keep the order of altitudes.
-use Rattle.std.specs.Prelude.{◌≡◌, ◌≤◌, ℤ, pos, ◌+ℤ◌, ◌<ℤ◌, ◌≤ℤ◌}
+use Rattle.std.specs.Prelude.{◌≡◌, ℤ, pos, ◌+ℤ◌, ◌<ℤ◌, ◌≤ℤ◌}
 use Rattle.std.proofs.Common.{sym, ap, ◌∙◌}
 use seplogic.Ra.Ura.{Ura}
 use base.Logic.{SProp, ent, id⊢}
