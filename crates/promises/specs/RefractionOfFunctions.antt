@@ -12,7 +12,6 @@ use contract.Monad.{Fun, conj, fact}
 use Rattle.rules.specs.declared.Weather.{Weather}
 use Rattle.rules.specs.declared.Angle.{Angle}
 use Rattle.rules.specs.declared.Weathered.{Weathered}
-use Rattle.rules.specs.Refusals.{refused}
 use Rattle.rules.specs.Units.{+◌}
 use Rattle.rules.specs.Weather.{recorded}
 use Rattle.rules.specs.Place as places

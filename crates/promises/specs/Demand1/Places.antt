@@ -11,7 +11,7 @@ use Rattle.rules.specs.declared.Instants.{Instants}
 use Rattle.rules.specs.declared.Prepared.{Prepared}
 use Rattle.rules.specs.declared.Placed.{Placed}
 use Rattle.rules.specs.Checks.{first}
-use Rattle.rules.specs.Refusals.{number, given, refused}
+use Rattle.rules.specs.Refusals.{given, refused}
 use Rattle.rules.specs.Answers.{or_nought, flag, prepared_answer, parts}
 use Rattle.rules.specs.Dates.{ut_of, tt_of}
 use Rattle.rules.specs.Night.{night, night_at, night_of}
