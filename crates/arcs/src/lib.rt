@@ -1,3 +1,5 @@
+#![tactic(auto)]
+
 // The arc of a reading, docs/RULES.md, "Turns, readings, place": θ whose tangent is u, in parts of
 // 2^30, and in µas.
 

@@ -1,3 +1,5 @@
+#![tactic(auto)]
+
 // The five arguments of nutation, of TT.
 
 ghost use Rattle.std.specs.Prelude.{◌≡◌};

@@ -1,3 +1,5 @@
+#![tactic(auto)]
+
 // A turn about each axis, not yet brought to length.
 
 ghost use Rattle.std.specs.Prelude.{◌≡◌};

@@ -1,3 +1,5 @@
+#![tactic(auto)]
+
 // The calendar of docs/RULES.md, "Dates": day numbers and dates.
 
 ghost use Rattle.std.specs.Prelude.{◌≡◌};

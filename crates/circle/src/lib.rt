@@ -1,3 +1,5 @@
+#![tactic(auto)]
+
 // Sine and cosine of an angle, docs/RULES.md, "Sine and cosine". Angles are in µas, all else in
 // parts of 2^30.
 

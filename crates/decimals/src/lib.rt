@@ -1,3 +1,5 @@
+#![tactic(auto)]
+
 // Whole numbers in decimal, and lines of them, put into lent memory.
 
 ghost use Rattle.std.specs.Prelude.{◌≡◌, ◌≤◌, ◌+◌, ◌%◌, nat_abs, length};

@@ -1,3 +1,5 @@
+#![tactic(auto)]
+
 // The two instants of a UTC date, docs/RULES.md, "Dates".
 
 ghost use Rattle.std.specs.Prelude.{◌≡◌};

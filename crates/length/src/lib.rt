@@ -1,3 +1,5 @@
+#![tactic(auto)]
+
 // The length of a direction: whether it is accepted, and bringing to length.
 
 ghost use Rattle.std.specs.Prelude.{◌≡◌, not, ◌<◌, ◌^◌, pos, nat_abs};

@@ -1,3 +1,5 @@
+#![tactic(auto)]
+
 // Signed and unsigned numbers in the bytes of a slice, little-endian.
 
 ghost use Rattle.std.specs.Prelude.{◌≡◌, length, pos, ◌+◌, ◌-◌, ◌*◌, ◌<◌, ◌≤◌, ◌^◌};

@@ -1,3 +1,5 @@
+#![tactic(auto)]
+
 // A list file read: its checks, its count, and a star by its index.
 
 ghost use Rattle.std.specs.Prelude.{◌≡◌, length, drop, ◌+◌, ◌*◌, ◌≤◌};

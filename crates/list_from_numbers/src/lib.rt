@@ -1,3 +1,5 @@
+#![tactic(auto)]
+
 // A list file of a row of numbers, written at once.
 
 ghost use Rattle.std.specs.Prelude.{◌≡◌, length, ◌+◌, ◌*◌, ◌≤◌};

@@ -1,3 +1,5 @@
+#![tactic(auto)]
+
 // A star as a record of a list file, and the file's head, put into bytes.
 
 ghost use Rattle.std.specs.Prelude.{◌≡◌, ◌++◌, length, ◌+◌, ◌*◌, ◌≤◌};

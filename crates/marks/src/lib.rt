@@ -1,3 +1,5 @@
+#![tactic(auto)]
+
 // An angle that may be none: its flag, nought in its place, and the mark of an entry that lacks one.
 
 ghost use Rattle.std.specs.Prelude.{◌≡◌};

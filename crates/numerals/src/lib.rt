@@ -1,3 +1,5 @@
+#![tactic(auto)]
+
 // A number in decimal: whether a row of bytes is one, and its value.
 
 ghost use Rattle.std.specs.Prelude.{◌≡◌, true, ◌≤◌, ◌+◌, ◌-◌, pos, nat_abs, length};

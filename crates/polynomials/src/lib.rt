@@ -1,3 +1,5 @@
+#![tactic(auto)]
+
 // Polynomials in time by document 01's rule, for any coefficients: from the highest down, multiply
 // by t, Rnd by Q, add the next. Coefficients in µas, constant first.
 

@@ -1,3 +1,5 @@
+#![tactic(auto)]
+
 // Precession from J2000 and the mean obliquity, of TT.
 
 ghost use Rattle.std.specs.Prelude.{◌≡◌};

@@ -1,3 +1,5 @@
+#![tactic(auto)]
+
 // An angle read from two numbers, and a height from three: docs/RULES.md, "Turns, readings, place".
 // Angles are in µas, all else in parts of 2^30.
 

@@ -1,3 +1,5 @@
+#![tactic(auto)]
+
 // The numbers of the refusals.
 
 ghost use Rattle.std.specs.Prelude.{◌≡◌, pos};

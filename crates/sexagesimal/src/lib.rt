@@ -1,3 +1,5 @@
+#![tactic(auto)]
+
 // Angles for people, put into lent memory after a space.
 
 ghost use Rattle.std.specs.Prelude.{◌≡◌, ◌≤◌, ◌+◌, nat_abs, length};

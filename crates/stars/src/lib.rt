@@ -1,3 +1,5 @@
+#![tactic(auto)]
+
 // Which stars and sites are accepted.
 
 ghost use Rattle.std.specs.Prelude.{◌≡◌};

@@ -1,3 +1,5 @@
+#![tactic(auto)]
+
 // The time of day: whether it exists, its ms, and UT and TT at it.
 
 ghost use Rattle.std.specs.Prelude.{◌≡◌, ◌≤◌, nat_abs};

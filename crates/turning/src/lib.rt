@@ -1,3 +1,5 @@
+#![tactic(auto)]
+
 // Turns of a direction about the three axes.
 
 ghost use Rattle.std.specs.Prelude.{◌≡◌, not};

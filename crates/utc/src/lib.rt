@@ -1,3 +1,5 @@
+#![tactic(auto)]
+
 // UTC of a TT instant, docs/RULES.md, "UTC of a TT instant".
 
 ghost use Rattle.std.specs.Prelude.{◌≡◌};

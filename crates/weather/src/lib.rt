@@ -1,3 +1,5 @@
+#![tactic(auto)]
+
 // The weather probe, docs/RULES.md, "Refraction": which readings are accepted, the record with one
 // reading more, and whole tenths of a float.
 

@@ -1,0 +1,29 @@
+-- `arguments::arguments` meets its contract.
+use mathlib.Core.Path.{ap}
+use borrow.Author.Rules.{rules, sfits_of}
+use Rattle.rules.specs.declared.FiveArguments.{FiveArguments}
+use Rattle.rules.specs.Arguments.{arguments_at}
+use Rattle.polynomials.proofs.Tested.{Tested, tested, instant_refused_lem, instant_accepted, instant_in_range}
+use Rattle.arguments.proofs.arguments.Goals as goal
+use Rattle.arguments.proofs.arguments.Lts as lts
+use Rattle.arguments.proofs.arguments.Tie as tie
+use Rattle.arguments.proofs.arguments.Reads as reads
+
+pub instant_refused-requires : goal.instant_refused-requires
+instant_refused-requires c = search rules
+
+test : (c : lts.After-instant_refused tie.the-claims reads.Pre reads.Post) → Tested c.args.t.0 c.instant_refused.result
+test c = tested (sfits_of c.struct_told-1.given.0.1) c.instant_refused.ensures
+
+pub returns-then-instant_refused : goal.returns-then-instant_refused
+unfolding arguments_at
+returns-then-instant_refused c = rw (instant_refused_lem (test c.before) c.if-instant_refused.true)
+
+pub arguments_of-requires : goal.arguments_of-requires
+arguments_of-requires c = instant_in_range (test c.before.before) c.if-instant_refused.false
+
+pub returns : goal.returns
+unfolding arguments_at
+returns c =
+    rw (instant_accepted (test c.before.before) c.if-instant_refused.false)
+    (ap FiveArguments.By c.arguments_of.ensures)
