@@ -2,12 +2,17 @@
 // in ms on each, and prints for each its UTC date and time, or the refusal. It prints no header, and
 // a last line without its end counts.
 
-use line_reads::Program;
+#![tactic(auto)]
 
-fn main() {
-    if 1 < os::arg_count() {
-        io::write_all(2, b"usage: dates < FILE\n");
+use line_reads::Program;
+use std::env::FillError;
+use std::rt::Env;
+
+fn main(rt: HostRuntime) {
+    let first = rt.arg(1, &mut []);
+    if !matches!(first, Err(FillError::NotPresent)) {
+        let _ = eprintln!(rt; "usage: dates < FILE");
         return;
     }
-    line_program::run(Program::Dates);
+    line_program::run(&rt, Program::Dates);
 }

@@ -12,10 +12,9 @@ use Rattle.rules.specs.Length.{root, root_from, square, pair_squares, part_to, p
 use Rattle.rules.specs.Turning.{Accepted}
 use Rattle.rules.specs.Circle.{radian_parts, square_parts, stage, stages, raw_sine, raw_cosine, pair_of_parts, pair_to_half}
 use Rattle.rules.specs.Circle.{exchanged_pair, pair_to_quarter, in_quarter, folded, pair}
-use Rattle.rules.specs.Series.{whole, radian, series_to_half, series}
 use Rattle.laws.specs.UpTo.{up_to_le}
 use Rattle.laws.specs.CircleLength.{cosine_range, sine_range, pair_of_parts_accepted}
-use Rattle.laws.specs.CircleToHalf.{WithinFour, pair_to_half_near, pair_to_half_is, radian_parts_range}
+use Rattle.laws.specs.CircleToHalf.{WithinFour, pair_to_half_is, radian_parts_range}
 use Rattle.laws.specs.Quarters.{Place, place}
 use Rattle.laws.specs.Folding.{to_quarter, folded_related, folded_at, folded_place, lower_half, folded_circle}
 use Rattle.laws.specs.Folding.{folded_quarter, folded_opposite}
@@ -30,7 +29,7 @@ four_neg x y e h = rw (out x y (pos e)) (rw (abs_neg (x *ℤ pos e -ℤ pos unit
     out x y e = ring (x ∷ y ∷ e ∷ [])
         (neg v0 ⊗ v2 ⊖ lit (pos unit) ⊗ neg v1) (neg (v0 ⊗ v2 ⊖ lit (pos unit) ⊗ v1)) tt
 
-four_quarter : (e k : ℕ) (p q : Pair) → WithinFour p q e → WithinFour (in_quarter k p) (in_quarter k q) e
+pub four_quarter : (e k : ℕ) (p q : Pair) → WithinFour p q e → WithinFour (in_quarter k p) (in_quarter k q) e
 unfolding in_quarter
 four_quarter e zero p q h = h
 four_quarter e (suc zero) p q h =
@@ -41,12 +40,6 @@ four_quarter e (suc (suc zero)) p q h = record {
 }
 four_quarter e (suc (suc (suc k))) p q h =
     record { cosine = h.sine; sine = four_neg p.cosine q.cosine e h.cosine }
-
--- within four parts of the series through the 15th power
-pub pair_near : (a : ℤ) → WithinFour (pair a) (series a) (whole radian)
-unfolding pair series exchanged_pair
-pair_near a = folded_related (λ p q. WithinFour p q (whole radian)) pair_to_half series_to_half pair_to_half_near
-    (λ p q h. record { cosine = h.sine; sine = h.cosine }) (four_quarter (whole radian)) a
 
 -- ---- sizes: each part at most 2^30, and the squares' sum accepted
 

@@ -1,23 +1,20 @@
 -- The series of the cosine and the sine at the arc's series of a / b are in the ratio b to a, nearly: the identity, and
 -- the bound (docs/MATHEMATICS.md, "The arc's identity").
-use Rattle.std.specs.Prelude.{◌≡◌, List, [], ◌∷◌, ℕ, ◌*◌, ◌≤◌, length, ℤ, negsuc, nat_abs, ◌+ℤ◌, ◌-ℤ◌, ◌*ℤ◌}
+use Rattle.std.specs.Prelude.{◌≡◌, List, [], ◌∷◌, ℕ, ◌*◌, ◌≤◌, length, ℤ, negsuc, ◌+ℤ◌, ◌-ℤ◌, ◌*ℤ◌}
 use Rattle.std.proofs.Math.Path.{ap}
-use Rattle.std.proofs.Common.{◌∙◌, mul-le-mul, mul-le-mul_left, mul-le-mul_right, arith, lit<, lit≤}
+use Rattle.std.proofs.Common.{◌∙◌, arith, lit≤}
 use Rattle.std.proofs.Math.IntN.{pos}
-use Rattle.integers.specs.Size.{abs_mul}
 use Rattle.integers.specs.Ring.{ring, v0, v1, v2, v3, v4, v5, ◌⊕◌, ◌⊖◌, ◌⊗◌, lit}
 use Rattle.integers.specs.Power.{power, power_add, power_suc, power_mul, power_power}
-use Rattle.integers.specs.Polynomial.{scale, times, value_at, size_at, length_times, value_plus, value_scale, value_shift}
-use Rattle.integers.specs.Polynomial.{value_times, raises, value_le}
+use Rattle.integers.specs.Polynomial.{scale, times, value_at, length_times, value_plus, value_scale, value_shift}
+use Rattle.integers.specs.Polynomial.{value_times, raises}
 use Rattle.integers.specs.SeriesStages.{numerator, denominator, degree, length_coefficients}
-use Rattle.rules.specs.Units.{unit}
 use Rattle.rules.specs.Reading.{arc_row}
 use Rattle.rules.specs.Series.{whole, sine_series, cosine_series}
 use Rattle.laws.specs.RoundedStages.{stages_of_arc}
 use Rattle.laws.specs.Series.{sine_steps, cosine_steps, sine_list, cosine_list, identity, whole_power, plain}
 use Rattle.laws.specs.Series.{plain_denominator, sine_is, cosine_is, sine_at, cosine_at}
 use Rattle.laws.specs.Certificates.{arc_list, odds, odds_is, arc_square, sine_of_arc, cosine_of_arc, arc_gap, arc_scale}
-use Rattle.laws.specs.Certificates.{arc_gap_le}
 use Rattle.laws.specs.Arc.{arc_numerator, arc_denominator}
 
 -- ---- lengths of the lists
@@ -44,7 +41,7 @@ power_square o = omega arith
 
 module _ (a b : ℕ) where
   -- the value of a list at a² / b², times a power of b²
-  abbrev at : ℕ → List ℤ → ℤ
+  abbrev pub at : ℕ → List ℤ → ℤ
   at e g = value_at (pos (a * a)) (b * b) e g
 
   -- ---- the arc's fraction, and its square
@@ -112,7 +109,7 @@ module _ (a b : ℕ) where
 
   -- ---- the identity
 
-  arc_identity : cosine_series (arc_numerator a b) (arc_denominator a b) *ℤ pos a
+  pub arc_identity : cosine_series (arc_numerator a b) (arc_denominator a b) *ℤ pos a
       -ℤ sine_series (arc_numerator a b) (arc_denominator a b) *ℤ pos b
       ≡ pos (a * b) *ℤ at 172 arc_gap
   arc_identity =
@@ -133,7 +130,7 @@ module _ (a b : ℕ) where
           (lit (pos 15) ⊗ (v1 ⊗ (lit (pos odds) ⊗ v2)) ⊗ v5 ⊗ v0 ⊖ v0 ⊗ v3 ⊗ v4 ⊗ v1)
           (v0 ⊗ v1 ⊗ (lit (pos (15 * odds)) ⊗ (v2 ⊗ v5) ⊕ lit (negsuc 0) ⊗ (v3 ⊗ v4))) tt
 
-  whole_arc : whole (arc_denominator a b) ≡ arc_scale * (b * power (b * b) 172)
+  pub whole_arc : whole (arc_denominator a b) ≡ arc_scale * (b * power (b * b) 172)
   unfolding arc_scale
   whole_arc =
       rw (
@@ -146,19 +143,3 @@ module _ (a b : ℕ) where
         power_add (b * b) 7 165,
       )
       (omega arith)
-
-  -- ---- and its bound
-
-  pub arc_ratio_near : 7 * a ≤ 3 * b
-      → 100 * (unit * nat_abs (cosine_series (arc_numerator a b) (arc_denominator a b) *ℤ pos a
-      -ℤ sine_series (arc_numerator a b) (arc_denominator a b) *ℤ pos b))
-      ≤ 7 * (a * whole (arc_denominator a b))
-  arc_ratio_near h =
-      let v = at 172 arc_gap in
-      rw (arc_identity, abs_mul (pos (a * b)) v, whole_arc)
-      (sum a b (nat_abs v) (size_at 9 49 arc_gap) (power (b * b) 172) arc_scale
-      (value_le (pos (a * a)) (b * b) 9 49 (lit< tt) (omega (arith, mul-le-mul h h)) 172 arc_gap) arc_gap_le)
-    where
-      sum : (a b v s w g : ℕ) → v ≤ s * w → 100 * (unit * s) ≤ 7 * g
-          → 100 * (unit * (a * b * v)) ≤ 7 * (a * (g * (b * w)))
-      sum a b v s w g h k = omega (arith, mul-le-mul_left (a * b) h, mul-le-mul_right (a * b * w) k)

@@ -13,7 +13,7 @@ use Rattle.rules.specs.Calendar.{day_count}
 use Rattle.laws.specs.Ranges.{yes, holds}
 use Rattle.laws.specs.Refusals.{utc_of_numbers}
 use Rattle.laws.specs.Rows.{earlier_span}
-use Rattle.laws.specs.DayCounts.{date, day_of_year, day_count_is, day_of_year_lt}
+use Rattle.laws.specs.DayCounts.{day_of_year, day_count_is, day_of_year_lt}
 use Rattle.laws.specs.DayNumbers.{RealDate, real_date_is}
 use Rattle.laws.specs.Instants.{range_of, RealTime, ms_count}
 use Rattle.laws.specs.Days.{ms_before, earlier_day}

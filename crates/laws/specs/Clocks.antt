@@ -1,5 +1,5 @@
 -- Accepted UTC times as ms of the span: TT counts them from the first on.
-use Rattle.std.specs.Prelude.{◌≡◌, Bool, true, cond, ◌⊎◌, ℕ, ◌+◌, ◌-◌, ◌*◌, ◌<◌, ℤ, pos, neg_ℤ, nat_abs}
+use Rattle.std.specs.Prelude.{◌≡◌, Bool, true, cond, ℕ, ◌+◌, ◌*◌, ◌<◌, ℤ, pos, neg_ℤ, nat_abs}
 use Rattle.std.proofs.Common.{sym, ap, ◌∙◌, ⊎_elim, arith}
 use Rattle.integers.specs.Difference.{IsDifference, add_is}
 use Rattle.rules.specs.declared.Ut.{Ut}

@@ -39,8 +39,6 @@ pub mod ArcNotNought
 pub mod Poles
 pub mod ReadingParts
 pub mod Across
-pub mod Octant
-pub mod Reading
 -- turns, and the angles of an instant
 pub mod Accepted
 pub mod Turn3

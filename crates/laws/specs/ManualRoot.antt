@@ -1,6 +1,6 @@
 -- The whole root as the manual works it: that it is the rule's, and that as many powers are tried as it has binary
 -- digits.
-use Rattle.std.specs.Prelude.{◌≡◌, ℕ, zero, suc, ◌+◌, ◌*◌, ◌-◌, ◌/◌, ◌≤◌, ◌<◌, ◌^◌}
+use Rattle.std.specs.Prelude.{◌≡◌, ℕ, zero, suc, ◌+◌, ◌*◌, ◌/◌, ◌≤◌, ◌<◌, ◌^◌}
 use Rattle.std.proofs.Common.{◌∙◌, sym, subst, le_antisymm, lt_of_lt_of_le, lt_of_not-le, zero-add, arith, pow-add, pow_mono, pow_pos}
 use Rattle.std.proofs.Math.Nat.{two-pow-succ}
 use Rattle.std.proofs.Math.Decide.{dec_le}

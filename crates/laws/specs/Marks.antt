@@ -12,16 +12,11 @@ use Rattle.rules.specs.declared.Angles.{Angles}
 use Rattle.rules.specs.declared.Entry.{Entry}
 use Rattle.rules.specs.declared.Night.{Night}
 use Rattle.rules.specs.Units.{quarter}
-use Rattle.rules.specs.Length.{squares}
-use Rattle.rules.specs.Turning.{Accepted}
 use Rattle.rules.specs.Answers.{has_angle, or_nought}
 use Rattle.rules.specs.Stars.{star_refused}
 use Rattle.rules.specs.Place.{apparent, overhead, readings, place_in}
-use Rattle.rules.specs.NightList.{mark_of, angles_of, entry_of, worked}
-use Rattle.laws.specs.Night.{NightFits}
-use Rattle.laws.specs.Place.{apparent_accepted, overhead_accepted}
+use Rattle.rules.specs.NightList.{mark_of, entry_of, worked}
 use Rattle.laws.specs.NoAngle.{some_is_not_none, no_angle_iff}
-use Rattle.laws.specs.Poles.{quarter_iff}
 
 -- (0, 0, ±z)
 abbrev pub OnAxis : Direction → Type 0
@@ -46,34 +41,6 @@ no_azimuth_iff n s =
       λ k. i.1 (o.1 k.0, k.1),
     )
 
--- and by the height beside it: of every other place the declination, or the altitude, is less than a quarter
-module _ (n : Night) (h : NightFits n) (s : Star) where
-  abbrev v : Direction
-  v = apparent n s
-
-  abbrev w : Direction
-  w = overhead n v
-
-  v_accepted : Accepted (squares v)
-  v_accepted = apparent_accepted n h s
-
-  w_accepted : Accepted (squares w)
-  w_accepted = overhead_accepted n h v v_accepted
-
-  pub no_ra_by_declination : (place_in n s).ra ≡ Read.NoAngle ↔ nat_abs (place_in n s).declination ≡ quarter
-  unfolding place_in readings
-  no_ra_by_declination =
-      let i = no_ra_iff n s in
-      let q = quarter_iff v v_accepted in
-      (λ e. q.1 (i.0 e), λ e. i.1 (q.0 e))
-
-  pub no_azimuth_by_altitude : (place_in n s).azimuth ≡ Read.NoAngle ↔ nat_abs (place_in n s).altitude ≡ quarter
-  unfolding place_in readings
-  no_azimuth_by_altitude =
-      let i = no_azimuth_iff n s in
-      let q = quarter_iff w w_accepted in
-      (λ e. q.1 (i.0 e), λ e. i.1 (q.0 e))
-
 -- ---- an entry tells which angle is missing
 
 -- an angle of an entry, by the height beside it
@@ -88,20 +55,11 @@ place_of a = record {
   altitude = a.altitude;
 }
 
-read_beside_lem : (r : Read) (height : ℤ) → r ≡ Read.NoAngle ↔ nat_abs height ≡ quarter → read_beside height (or_nought r) ≡ r
+pub read_beside_lem : (r : Read) (height : ℤ) → r ≡ Read.NoAngle ↔ nat_abs height ≡ quarter → read_beside height (or_nought r) ≡ r
 unfolding or_nought read_beside
 read_beside_lem (Read.Angle a) height i =
     rw (ne_eqb (nat_abs height) quarter (λ e. some_is_not_none a (i.1 e)))
 read_beside_lem Read.NoAngle height i = rw (eq-eqb (nat_abs height) quarter (i.0 refl))
-
-pub place_of_entry : (n : Night) (s : Star) → NightFits n → place_of (angles_of (place_in n s)) ≡ place_in n s
-unfolding angles_of place_of
-place_of_entry n s h =
-    let p = place_in n s in
-    rw (
-      read_beside_lem p.ra p.declination (no_ra_by_declination n h s),
-      read_beside_lem p.azimuth p.altitude (no_azimuth_by_altitude n h s),
-    )
 
 -- ---- marks
 

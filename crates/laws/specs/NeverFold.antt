@@ -1,8 +1,8 @@
 -- 02, C-22, of answers: two accepted UTC times have the same TT only if they are the same, a later one has the larger,
 -- and each TT of the stretch comes from exactly one, which is the one that is answered.
 use Rattle.std.specs.Prelude.{◌≡◌, refl, Bool, true, false, cond, ◌↔◌, ℕ, ◌+◌, ◌-◌, ◌<◌, ℤ, pos, neg_ℤ, ◌<ℤ◌}
-use Rattle.std.proofs.Common.{sym, ap, ◌∙◌, arith}
-use Rattle.integers.specs.Difference.{eq_of_parts, parts_of_eq}
+use Rattle.std.proofs.Common.{sym, arith}
+use Rattle.integers.specs.Difference.{eq_of_parts}
 use Rattle.rules.specs.declared.Ut.{Ut}
 use Rattle.rules.specs.declared.Tt.{Tt}
 use Rattle.rules.specs.declared.Utc.{Utc}
@@ -21,7 +21,7 @@ use Rattle.laws.specs.DayNumbers.{day_number_is}
 use Rattle.laws.specs.Instants.{instants_at_lem}
 use Rattle.laws.specs.Days.{ms_before, ms_on, ms_on_le, ms_before_after, ms_before_end, earlier_day}
 use Rattle.laws.specs.Clocks.{AcceptedUtc, accepted_date, of_instants, instants_of_lem, ms_of, ms_lt, tt_is}
-use Rattle.laws.specs.ClockOrder.{Earlier, later_more, same_ms}
+use Rattle.laws.specs.ClockOrder.{Earlier, later_more}
 use Rattle.laws.specs.Stretch.{InStretch, stretch_refused_iff, stretch_accepted_iff, Counts, count_of, counts}
 use Rattle.laws.specs.Stretch.{in_stretch}
 use Rattle.laws.specs.Utc.{of_tt, ms_count_lem, time_exists}
@@ -29,18 +29,12 @@ use Rattle.laws.specs.Utc.{of_tt, ms_count_lem, time_exists}
 -- ---- accepted UTC times
 
 -- the ms of the span before an accepted moment
-tt_counts : (m : Moment) (v : Ut) (t : Tt) → instants m ≡ Instants.At v t → Counts t.0 (ms_of (utc_of m))
+pub tt_counts : (m : Moment) (v : Ut) (t : Tt) → instants m ≡ Instants.At v t → Counts t.0 (ms_of (utc_of m))
 tt_counts m v t e =
     rw (← (instants_at_lem m v t e).1) (tt_is (utc_of m) m.ut1_minus_utc (of_instants m v t e))
 
 module _ (m m' : Moment) (v v' : Ut) (t t' : Tt) (e : instants m ≡ Instants.At v t)
     (e' : instants m' ≡ Instants.At v' t') where
-  -- "two accepted UTC times have the same TT only if they are the same"
-  pub same_tt : t ≡ t' → utc_of m ≡ utc_of m'
-  same_tt s =
-      same_ms (utc_of m) (utc_of m') (of_instants m v t e) (of_instants m' v' t' e')
-      (omega (arith, tt_counts m v t e, tt_counts m' v' t' e', parts_of_eq t.0 t'.0 (ap (λ (x : Tt). x.0) s)))
-
   -- "a later one has the larger TT through every added second"
   pub later_larger : Earlier (utc_numbers (utc_of m)) (utc_numbers (utc_of m')) → t.0 <ℤ t'.0
   later_larger h =
@@ -103,7 +97,7 @@ answered_refused : (b : Bool) (u : Utc)
 answered_refused true u = (λ e. refl, λ e. refl)
 answered_refused false u = (λ e. cc, λ e. true_not_false (sym e))
 
-answered_same : (u w : Utc) → Clocked.At u ≡ Clocked.At w → u ≡ w
+pub answered_same : (u w : Utc) → Clocked.At u ≡ Clocked.At w → u ≡ w
 answered_same u w e = cc
 
 module _ (t : Tt) where
@@ -132,20 +126,6 @@ module _ (t : Tt) where
       eq_of_parts (tt_of (moment_with u d)).0 t.0 (omega (arith, tt_is u d a, c)) in
       let q : tt_of (moment_with u d) ≡ t = λ i. record { 0 = k i } in
       rw q at (instants_of_lem u d a h)
-
-  -- UTC to TT and back
-  pub tt_then_utc : (m : Moment) (v : Ut) → instants m ≡ Instants.At v t → utc_of_tt t ≡ Clocked.At (utc_of m)
-  tt_then_utc m v e =
-      let h = accepted_in_stretch m v t e in
-      let w = utc_at_lem t.0 h in
-      utc_answered h
-      ∙ ap Clocked.At (same_ms (utc_at t.0) (utc_of m) w.0 (of_instants m v t e)
-      (omega (arith, w.1, tt_counts m v t e)))
-
-  -- and from no other: what is answered is the only one
-  pub only_answered : (u : Utc) → utc_of_tt t ≡ Clocked.At u → (m : Moment) (v : Ut) → instants m ≡ Instants.At v t
-      → utc_of m ≡ u
-  only_answered u e m v f = answered_same (utc_of m) u (sym (tt_then_utc m v f) ∙ e)
 
 -- refused exactly where no accepted UTC time has this TT
 pub refused_none : (t : Tt)

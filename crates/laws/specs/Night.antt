@@ -15,14 +15,13 @@ use Rattle.rules.specs.Circle.{pair}
 use Rattle.rules.specs.Turning.{Accepted}
 use Rattle.rules.specs.Precession.{obliquity_row, obliquity}
 use Rattle.rules.specs.Nutation.{nutation}
-use Rattle.rules.specs.Sun.{sun_longitude, perihelion}
 use Rattle.rules.specs.Sidereal.{sidereal, sidereal_polynomial}
-use Rattle.rules.specs.Night.{aberration_constant, eccentric_constant, aberration_x, aberration_y, aberration}
-use Rattle.rules.specs.Night.{local_sidereal, site_refused, night}
+use Rattle.rules.specs.Night.{aberration_constant, eccentric_constant, aberration_x, aberration_y}
+use Rattle.rules.specs.Night.{local_sidereal, site_refused}
 use Rattle.laws.specs.Units.{within_le}
 use Rattle.laws.specs.Rounding.{rnd_under}
 use Rattle.laws.specs.Modulo.{modulo_lt}
-use Rattle.laws.specs.Angles.{Sized, pair_sized, pair_length}
+use Rattle.laws.specs.Angles.{Sized, pair_sized}
 use Rattle.laws.specs.Directions.{PartsLe}
 use Rattle.laws.specs.Aberration.{most_added}
 use Rattle.laws.specs.Instant.{InRange}
@@ -71,14 +70,6 @@ module _ (s p : Pair) (hs : Sized s) (hp : Sized p) where
     of_circle_le s.cosine hs.cosine_le,
     of_eccentricity_le p.cosine hp.cosine_le,
   )
-
-  pub aberration_le : (e : Pair) → Sized e → PartsLe most_aberration (aberration s p e)
-  unfolding aberration
-  aberration_le e he = record {
-    x = aberration_x_le;
-    y = scaled_le (aberration_y s p) e.cosine most_aberration aberration_y_le he.cosine_le;
-    z = scaled_le (aberration_y s p) e.sine most_aberration aberration_y_le he.sine_le;
-  }
 
 -- ---- the local sidereal angle
 
@@ -140,21 +131,3 @@ pub record NightFits (n : Night) : Type 0 where
   pub true_epsilon : Accepted (pair_squares n.true_epsilon)
   pub minus_sidereal : Accepted (pair_squares n.minus_sidereal)
   pub latitude_less_quarter : Accepted (pair_squares n.latitude_less_quarter)
-
-pub night_fits : (ut : Ut) (tt : Tt) (site : Site) → InRange tt.0 → NightFits (night ut tt site)
-unfolding night
-night_fits ut tt site h = record {
-  instant = h;
-  zeta = pair_length _;
-  minus_theta = pair_length _;
-  z = pair_length _;
-  aberration =
-      let a = aberration_le (pair (sun_longitude tt)) (pair (perihelion tt)) (pair_sized _) (pair_sized _)
-      (pair (obliquity tt)) (pair_sized _) in
-      record { x = omega (arith, a.x); y = omega (arith, a.y); z = omega (arith, a.z) };
-  minus_epsilon = pair_length _;
-  delta_psi = pair_length _;
-  true_epsilon = pair_length _;
-  minus_sidereal = pair_length _;
-  latitude_less_quarter = pair_length _;
-}

@@ -1,6 +1,6 @@
 -- A height is a quarter exactly where its direction lies on the axis: one part of 2^30 off it already reads less
 -- (docs/MATHEMATICS.md, "The quarter of a height").
-use Rattle.std.specs.Prelude.{◌≡◌, refl, ◌↔◌, ℕ, zero, suc, ◌+◌, ◌*◌, ◌-◌, ◌≤◌, ◌<◌, ◌^◌, ℤ, pos, negsuc, nat_abs}
+use Rattle.std.specs.Prelude.{◌≡◌, refl, ◌↔◌, ℕ, zero, suc, ◌+◌, ◌*◌, ◌≤◌, ◌<◌, ◌^◌, ℤ, pos, negsuc, nat_abs}
 use Rattle.std.proofs.Common.{sym, ap, ◌∙◌, lt_of_not-le, arith}
 use Rattle.std.proofs.Math.Decide.{dec_le}
 use Rattle.integers.specs.Difference.{pos_sub}

@@ -1,7 +1,6 @@
 -- A night worked out by the rules alone, to the last unit: 20 March 2026 at 20:00 UTC, at 50° 05' 16'' north,
 -- 14° 25' 15'' east.
 use Rattle.std.specs.Prelude.{◌≡◌, refl, ℤ, pos, neg_ℤ, ◌+ℤ◌, ◌-ℤ◌, ◌*ℤ◌}
-use Rattle.std.proofs.Common.{ap, ◌∙◌}
 use Rattle.rules.specs.declared.Ut.{Ut}
 use Rattle.rules.specs.declared.Tt.{Tt}
 use Rattle.rules.specs.declared.Moment.{Moment}
@@ -11,7 +10,6 @@ use Rattle.rules.specs.declared.Nutation.{Nutation}
 use Rattle.rules.specs.declared.Site.{Site}
 use Rattle.rules.specs.declared.Night.{Night}
 use Rattle.rules.specs.declared.Instants.{Instants}
-use Rattle.rules.specs.declared.Prepared.{Prepared}
 use Rattle.rules.specs.Units.{quarter, unit, +◌, −◌, same, between, within}
 use Rattle.rules.specs.Rounding.{rnd, rnd_size, modulo, remainder}
 use Rattle.rules.specs.Years.{leap, months, sum, up_from, years}
@@ -27,7 +25,7 @@ use Rattle.rules.specs.Arguments.{arguments}
 use Rattle.rules.specs.Nutation.{term_angle, longitude_product, obliquity_product, total, nutation_by, nutation}
 use Rattle.rules.specs.Sun.{mean_longitude, centre_product, centre_sum, centre, sun_longitude, perihelion}
 use Rattle.rules.specs.Sidereal.{sidereal_polynomial, sidereal}
-use Rattle.rules.specs.Night.{aberration_x, aberration_y, aberration, local_sidereal, night, site_refused, night_at, night_of}
+use Rattle.rules.specs.Night.{aberration_x, aberration_y, aberration, local_sidereal, night}
 
 -- ---- the moment and the site
 
@@ -75,7 +73,7 @@ tonight = record {
 }
 
 -- a night with another pair of latitude − quarter
-abbrev turned_by : Pair → Night → Night
+abbrev pub turned_by : Pair → Night → Night
 turned_by p n = record {
   tt = n.tt;
   zeta = n.zeta;
@@ -90,7 +88,7 @@ turned_by p n = record {
 }
 
 -- the night of a nutation, a longitude of the Sun and one of perihelion, each worked out before
-abbrev night_by : Nutation → ℤ → ℤ → Night
+abbrev pub night_by : Nutation → ℤ → ℤ → Night
 night_by n s p = record {
   tt = tt_now;
   zeta = pair (precession tt_now).zeta;
@@ -105,46 +103,34 @@ night_by n s p = record {
   latitude_less_quarter = pair (remainder (here.latitude -ℤ pos quarter));
 }
 
-in_parts : night ut_now tt_now here ≡ night_by (nutation tt_now) (sun_longitude tt_now) (perihelion tt_now)
+pub in_parts : night ut_now tt_now here ≡ night_by (nutation tt_now) (sun_longitude tt_now) (perihelion tt_now)
 unfolding night local_sidereal
 in_parts = refl
 
 -- Δψ and Δε
-abbrev nutation_tonight : Nutation
+abbrev pub nutation_tonight : Nutation
 nutation_tonight = record { longitude = + 6171244; obliquity = + 9122441 }
 
 -- S and ϖ
-abbrev sun_tonight : ℤ
+abbrev pub sun_tonight : ℤ
 sun_tonight = + 34992817376817
 
-abbrev perihelion_tonight : ℤ
+abbrev pub perihelion_tonight : ℤ
 perihelion_tonight = + 372197348747
 
-record PartsTonight : Type 0 where
-  nutated : nutation tt_now ≡ nutation_tonight
-  sun : sun_longitude tt_now ≡ sun_tonight
-  perihelion : perihelion tt_now ≡ perihelion_tonight
-  all : night_by nutation_tonight sun_tonight perihelion_tonight ≡ tonight
+pub record PartsTonight : Type 0 where
+  pub nutated : nutation tt_now ≡ nutation_tonight
+  pub sun : sun_longitude tt_now ≡ sun_tonight
+  pub perihelion : perihelion tt_now ≡ perihelion_tonight
+  pub all : night_by nutation_tonight sun_tonight perihelion_tonight ≡ tonight
 
-parts_are : PartsTonight
+pub parts_are : PartsTonight
 unfolding rnd rnd_size modulo remainder root_from root square pair_squares part_to pair_to_length radian_parts square_parts
     stage stages raw_sine raw_cosine pair_of_parts pair_to_half exchanged_pair pair_to_quarter in_quarter folded pair times_t_plus
     polynomial precession obliquity arguments term_angle longitude_product obliquity_product total nutation_by nutation
     mean_longitude centre_product centre_sum centre sun_longitude perihelion sidereal_polynomial sidereal aberration_x
     aberration_y aberration
 parts_are = record { nutated = refl; sun = refl; perihelion = refl; all = refl }
-
--- the night of `here`
-pub night_is : night ut_now tt_now here ≡ tonight
-night_is = in_parts
-    ∙ ap (λ n. night_by n (sun_longitude tt_now) (perihelion tt_now)) parts_are.nutated
-    ∙ ap (λ s. night_by nutation_tonight s (perihelion tt_now)) parts_are.sun
-    ∙ ap (night_by nutation_tonight sun_tonight) parts_are.perihelion
-    ∙ parts_are.all
-
-pub made_ready : night_of evening here ≡ Prepared.For tonight
-unfolding night_of night_at site_refused between within
-made_ready = ap (λ i. night_at i here) evening_is ∙ ap Prepared.For night_is
 
 -- ---- the same evening on the meridian of `here`
 
@@ -154,9 +140,3 @@ north_of latitude = record { latitude = latitude; longitude = here.longitude }
 -- the last turn alone is another
 abbrev pub tonight_by : Pair → Night
 tonight_by p = turned_by p tonight
-
-pub night_north : (latitude : ℤ) (p : Pair) → pair (remainder (latitude -ℤ pos quarter)) ≡ p
-    → night ut_now tt_now (north_of latitude) ≡ tonight_by p
-unfolding night local_sidereal
-night_north latitude p e =
-    ap (turned_by (pair (remainder (latitude -ℤ pos quarter)))) night_is ∙ ap tonight_by e

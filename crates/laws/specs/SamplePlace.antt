@@ -9,7 +9,7 @@ use Rattle.rules.specs.declared.Night.{Night}
 use Rattle.rules.specs.declared.Read.{Read}
 use Rattle.rules.specs.declared.Place.{Place}
 use Rattle.rules.specs.declared.Placed.{Placed}
-use Rattle.rules.specs.Units.{+◌, −◌, same, between, within}
+use Rattle.rules.specs.Units.{+◌, −◌, same}
 use Rattle.rules.specs.Rounding.{rnd, rnd_size, modulo, remainder}
 use Rattle.rules.specs.Length.{root_from, root, square, pair_squares, squares, part_to, pair_to_length, to_length}
 use Rattle.rules.specs.Circle.{radian_parts, square_parts, stage, stages, raw_sine, raw_cosine, pair_of_parts, pair_to_half}
@@ -22,7 +22,7 @@ use Rattle.rules.specs.Night.{night, site_refused}
 use Rattle.rules.specs.Stars.{star_refused}
 use Rattle.rules.specs.Place.{moved, directed, precessed, aberrated, nutated, apparent, overhead, readings, place_in}
 use Rattle.rules.specs.Place.{place_at, place}
-use Rattle.laws.specs.SampleNight.{evening, here, ut_now, tt_now, evening_is, direction, tonight, night_is}
+use Rattle.laws.specs.SampleNight.{evening, ut_now, tt_now, evening_is, direction, tonight}
 
 -- ---- the six steps
 
@@ -91,7 +91,7 @@ equinox_place = record {
   altitude = − 91944771011;
 }
 
-sirius_steps : Steps tonight sirius
+pub sirius_steps : Steps tonight sirius
     (direction (− 201196050) (+ 1008444631) (− 309000131))
     (direction (− 206317076) (+ 1007250048) (− 309519161))
     (direction (− 206333694) (+ 1007226495) (− 309584724))
@@ -112,7 +112,7 @@ sirius_steps = record {
   read = refl;
 }
 
-equinox_steps : Steps tonight equinox
+pub equinox_steps : Steps tonight equinox
     (direction (+ 1073741824) (+ 0) (+ 0))
     (direction (+ 1073719888) (+ 6295066) (+ 2735119))
     (direction (+ 1073720567) (+ 6196808) (+ 2692526))
@@ -132,17 +132,3 @@ equinox_steps = record {
   step6 = refl;
   read = refl;
 }
-
-pub sirius_place_lem : place_in tonight sirius ≡ sirius_place
-sirius_place_lem = place_of_steps tonight sirius sirius_steps
-
-pub equinox_place_lem : place_in tonight equinox ≡ equinox_place
-equinox_place_lem = place_of_steps tonight equinox equinox_steps
-
-pub sirius_stands : place evening sirius here ≡ Placed.At sirius_place
-unfolding star_refused site_refused between within
-sirius_stands = stands here tonight sirius refl night_is refl sirius_place_lem
-
-pub equinox_stands : place evening equinox here ≡ Placed.At equinox_place
-unfolding star_refused site_refused between within
-equinox_stands = stands here tonight equinox refl night_is refl equinox_place_lem

@@ -1,5 +1,5 @@
 -- Whole tenths as code works them: of an f32 below 2^11 in size, by the whole part of its product with 2^30.
-use Rattle.std.specs.Prelude.{◌≡◌, refl, Bool, ◌&&◌, ◌||◌, ℕ, zero, suc, ◌+◌, ◌-◌, ◌*◌, ◌/◌, ◌%◌, ◌<◌, ◌≤◌, ◌^◌, ℤ, pos, negsuc, nat_abs, ◌*ℤ◌, T, ltb, leb, Float}
+use Rattle.std.specs.Prelude.{◌≡◌, refl, Bool, ◌&&◌, ◌||◌, ℕ, zero, suc, ◌+◌, ◌*◌, ◌/◌, ◌%◌, ◌<◌, ◌≤◌, ◌^◌, ℤ, pos, negsuc, nat_abs, ◌*ℤ◌, T, ltb, leb, Float}
 use Rattle.std.proofs.Common.{sym, mul-one, mul_right_comm, div-lt_iff_lt-mul, lt_of_mul-lt-mul_right, mul-lt-mul_of_pos_right, le_trans, arith, ltb→lt, leb→le, lit<, lit≤, eqb→eq}
 use Rattle.std.proofs.Math.Bool.{true, false}
 use Rattle.std.proofs.Math.Dec.{eqb, lt→ltb}

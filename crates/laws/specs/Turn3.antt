@@ -5,20 +5,18 @@ use Rattle.std.proofs.Common.{sym, ap, subst, mul-le-mul_left, mul-le-mul_right,
 use Rattle.std.proofs.Math.Nat.{mul-le-mul}
 use Rattle.std.proofs.Math.Decide.{dec_le}
 use Rattle.std.proofs.Math.IntN.{pos, nat_abs, +ℤ_invr}
-use Rattle.integers.specs.Difference.{sub_is}
-use Rattle.integers.specs.Size.{abs_le, square_abs}
+use Rattle.integers.specs.Size.{square_abs}
 use Rattle.integers.specs.Ring.{ring, v0, v1, v2, v3, v4, v5, square, ◌⊕◌, ◌⊖◌, ◌⊗◌}
 use Rattle.integers.specs.Square.{le_of_square_le, square_le_of_le, squares_of_pos}
 use Rattle.rules.specs.declared.Pair.{Pair}
 use Rattle.rules.specs.declared.Direction.{Direction}
 use Rattle.rules.specs.Units.{unit}
-use Rattle.rules.specs.Length.{square as squared, squares, pair_squares, root, to_length}
+use Rattle.rules.specs.Length.{square as squared, squares, pair_squares, root}
 use Rattle.rules.specs.Turning.{Accepted, turn3}
 use Rattle.laws.specs.Rounding.{rnd_near}
 use Rattle.laws.specs.Root.{root_root, root_le}
-use Rattle.laws.specs.Directions.{plus, minus, times, plus_le, times_le, le_of_times_le, minus_swap}
-use Rattle.laws.specs.Directions.{le_of_parts_eq, le_of_minus_le, accepted_le}
-use Rattle.laws.specs.Length.{to_length_near, to_length_accepted}
+use Rattle.laws.specs.Directions.{minus, times, times_le, le_of_times_le, minus_swap}
+use Rattle.laws.specs.Directions.{le_of_minus_le, accepted_le}
 
 -- no accepted direction, and no accepted pair, is longer
 abbrev pub longest : ℕ
@@ -32,7 +30,7 @@ abbrev pub long_turn : ℕ
 long_turn = unit + 5
 
 -- what the two roundings of a turn leave over, times 2^30: 3/4
-abbrev roundings : ℕ
+abbrev pub roundings : ℕ
 roundings = 3 * 2 ^ 28
 
 -- and together with the bringing to length: 9 3/4
@@ -109,7 +107,7 @@ rest_le p v =
     small : (e f g : ℕ) → 2 * e ≤ unit → 2 * f ≤ unit → g ≡ 0 → e * e + f * f + g * g ≤ roundings * roundings
     small e f g h k l = rw l (omega (arith, mul-le-mul h h, mul-le-mul k k))
 
-rest_back_le : (p : Pair) (v : Direction)
+pub rest_back_le : (p : Pair) (v : Direction)
     → squares (minus (times (pos unit) (turn3 p v)) (image p v)) ≤ roundings * roundings
 rest_back_le p v =
     subst (λ n. n ≤ roundings * roundings) (sym (minus_swap (image p v) (times (pos unit) (turn3 p v)))) (rest_le p v)
@@ -150,36 +148,3 @@ module _ (p : Pair) (v : Direction) (hp : Accepted (pair_squares p)) (hv : Accep
       by (yes h) = h
       by (no h) = absurd (not_shorter (below (squares (turn3 p v)) (root (squares (turn3 p v)))
           (root_root (squares (turn3 p v)) (omega (arith, turn3_fits))).above (lt_of_not-le h)))
-
-  pub turn3_accepted : Accepted (squares (to_length (turn3 p v)))
-  turn3_accepted = to_length_accepted (turn3 p v) (omega (arith, turn3_fits)) (omega (arith, turn3_root_ge))
-
-  -- no part moves by more than 5 when it is brought to length
-  moved_le : squares (minus (to_length (turn3 p v)) (turn3 p v)) ≤ 9 * 9
-  unfolding squares squared
-  moved_le =
-      let l = root (squares (turn3 p v)) in
-      let five : nat_abs (pos unit -ℤ pos l) ≤ 5 = abs_le (pos unit -ℤ pos l) 5
-      (omega (arith, sub_is (pos unit) (pos l), turn3_root_ge, turn3_root_le))
-      (omega (arith, sub_is (pos unit) (pos l), turn3_root_ge, turn3_root_le)) in
-      let n = to_length_near (turn3 p v) (omega (arith, turn3_fits)) (omega (arith, turn3_root_ge)) in
-      small _ _ _ (le_trans n.x five) (le_trans n.y five) (le_trans n.z five)
-    where
-      small : (e f g : ℕ) → e ≤ 5 → f ≤ 5 → g ≤ 5 → e * e + f * f + g * g ≤ 9 * 9
-      small e f g h k l = omega (arith, mul-le-mul h h, mul-le-mul k k, mul-le-mul l l)
-
-  -- brought to length and times 2^30, it is near the image
-  pub turn3_near : squares (minus (times (pos unit) (to_length (turn3 p v))) (image p v)) ≤ turn_error * turn_error
-  turn3_near =
-      let w = to_length (turn3 p v) in
-      let m = turn3 p v in
-      let i = image p v in
-      le_of_parts_eq (minus (times (pos unit) w) i)
-      (plus (times (pos unit) (minus w m)) (minus (times (pos unit) m) i))
-      (by_way_of (pos unit) w.x m.x i.x) (by_way_of (pos unit) w.y m.y i.y)
-      (by_way_of (pos unit) w.z m.z i.z)
-      (plus_le (times (pos unit) (minus w m)) (minus (times (pos unit) m) i) (unit * 9) roundings
-      (times_le (pos unit) (minus w m) unit 9 (lit≤ tt) moved_le) (rest_back_le p v))
-    where
-      by_way_of : (b w m i : ℤ) → b *ℤ w -ℤ i ≡ b *ℤ (w -ℤ m) +ℤ (b *ℤ m -ℤ i)
-      by_way_of b w m i = ring (b ∷ w ∷ m ∷ i ∷ []) (v0 ⊗ v1 ⊖ v3) (v0 ⊗ (v1 ⊖ v2) ⊕ (v0 ⊗ v2 ⊖ v3)) tt

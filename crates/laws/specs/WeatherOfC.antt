@@ -11,7 +11,7 @@ use Rattle.rules.specs.Answers.{weathered_number, weathered_record}
 use Rattle.rules.specs.Floats.{with_sign, finite, numerator, denominator, lies}
 use Rattle.rules.specs.Weather.{is_pressure, is_temperature, is_accepted, in_range, standard_pressure, standard_temperature}
 use Rattle.rules.specs.Weather.{no_weather, with_reading, taken, mended, recorded, stays, taken_in, taken_from}
-use Rattle.laws.specs.Weather.{fields_in_range, in_range_of_fields, Kept, no_weather_kept, with_kept, taken_kept}
+use Rattle.laws.specs.Weather.{fields_in_range, in_range_of_fields, Kept, no_weather_kept, taken_kept}
 
 -- ---- whatever C hands back
 
@@ -31,22 +31,6 @@ recorded_keeps w v e = by (in_range (mended w)) refl e
         → cond b (Weathered.Now (mended w)) (Weathered.Refused w) ≡ Weathered.Now v → Kept v
     by true t e = subst Kept (ap weathered_record e) (mended_keeps w t)
     by false t e = absurd (omega (arith, ap weathered_number e))
-
-pub taken_from_keeps : (w v : Weather) (r : Reading) → taken_from w r ≡ Weathered.Now v → Kept v
-unfolding taken_from taken_in stays taken weathered_number weathered_record number
-taken_from_keeps w v r e = by (recorded w) (recorded_keeps w) e
-  where
-    no : {A : Type 0} (u : Weather) → Weathered.Refused u ≡ Weathered.Now v → A
-    no u q = absurd (omega (arith, ap weathered_number q))
-
-    of : (u : Weather) (b : Bool) → is_accepted r ≡ b → Kept u
-        → stays w (cond b (Weathered.Now (with_reading u r)) (Weathered.Refused u)) ≡ Weathered.Now v → Kept v
-    of u true k f q = subst Kept (ap weathered_record q) (with_kept u r f k)
-    of u false k f q = no w q
-
-    by : (a : Weathered) → ((u : Weather) → a ≡ Weathered.Now u → Kept u) → taken_in w a r ≡ Weathered.Now v → Kept v
-    by (Weathered.Now u) f q = of u (is_accepted r) refl (f u refl) q
-    by (Weathered.Refused u) f q = no w q
 
 -- ---- what the module answered
 

@@ -16,8 +16,10 @@ use Rattle.rules.specs.NightList.{mark_of, angles_of, entry_of, worked}
 use Rattle.rules.specs.Times.{decimal_before, decimal}
 use Rattle.laws.specs.Decimal.{last_digits}
 use Rattle.laws.specs.SampleNight.{tonight}
-use Rattle.laws.specs.SampleNoAngle.{pole_star, pole_place, pole_place_lem}
-use Rattle.laws.specs.SampleNoAngle.{zenith_night, zenith_star, zenith_place, zenith_place_lem}
+use Rattle.laws.specs.SampleNoAngle.{pole_star, pole_place}
+use Rattle.laws.proofs.SampleNoAngle.{pole_place_lem}
+use Rattle.laws.specs.SampleNoAngle.{zenith_night, zenith_star, zenith_place}
+use Rattle.laws.proofs.SampleNoAngle.{zenith_place_lem}
 use Rattle.sexagesimal.specs.Sexagesimal.{marked, clock, sexagesimal, round_in, hours, bearing, sign_of, elevation}
 use Rattle.line_entries.specs.EntryLine.{or_dash, two, equatorial, horizontal, plain_angles, people_angles, entry_line}
 use Rattle.line_places.specs.declared.air.Air.{Air}

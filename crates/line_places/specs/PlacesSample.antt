@@ -21,8 +21,10 @@ use Rattle.rules.specs.Numerals.{is_digit, alike, of_form, negative, unsigned, o
 use Rattle.rules.specs.Lines.{moment, line_of}
 use Rattle.rules.specs.Times.{decimal_before, decimal, newline, ended}
 use Rattle.laws.specs.Decimal.{last_digits}
-use Rattle.laws.specs.SampleNight.{evening, here, tonight, made_ready}
-use Rattle.laws.specs.SamplePlace.{sirius, equinox, sirius_place, equinox_place, sirius_place_lem, equinox_place_lem}
+use Rattle.laws.specs.SampleNight.{evening, here, tonight}
+use Rattle.laws.proofs.SampleNight.{made_ready}
+use Rattle.laws.specs.SamplePlace.{sirius, equinox, sirius_place, equinox_place}
+use Rattle.laws.proofs.SamplePlace.{sirius_place_lem, equinox_place_lem}
 use Rattle.line_asked.specs.declared.Asked.{Asked}
 use Rattle.line_asked.specs.Asking.{length_before, first_word, after_word, of_site, site_in}
 use Rattle.line_asked.specs.Asking.{with_site, asked_in, moment_end, asked_of}

@@ -4,10 +4,15 @@
 // What is printed for what is read is proved of `line_reads`. An input that cannot be read and an
 // output that cannot be written each get a line on standard error, and end the program.
 
+#![tactic(auto)]
+
 ghost use Rattle.std.specs.Prelude.{◌≡◌, true, ◌≤◌, take};
 ghost use Rattle.line_program.specs.Turns.{Handed, Turned};
 
+use input::reason::Reason;
 use line_reads::{Program, Start, answer_read, begin};
+use std::io;
+use std::io::Read;
 
 // What a turn leaves: the start of the line that its read broke off in, and whether to go on.
 #[derive(Clone, Copy)]
@@ -16,57 +21,67 @@ struct Turn {
     more: bool,
 }
 
-// Why standard input could not be read.
-fn fail_input(program: Program) {
-    match program {
-        Program::Times => os::fail(b"times: standard input"),
-        Program::Dates => os::fail(b"dates: standard input"),
-    }
+// Says why standard input could not be read. What cannot be said is lost.
+fn fail_input<R: Eprint>(rt: &R, program: Program, error: io::Error) {
+    let why = Reason(error);
+    let _ = match program {
+        Program::Times => eprintln!(rt; "times: standard input: {why}"),
+        Program::Dates => eprintln!(rt; "dates: standard input: {why}"),
+    };
 }
 
-// Why standard output could not be written.
-fn fail_output(program: Program) {
-    match program {
-        Program::Times => os::fail(b"times: standard output"),
-        Program::Dates => os::fail(b"dates: standard output"),
-    }
+// Says why standard output could not be written. What cannot be said is lost.
+fn fail_output<R: Eprint>(rt: &R, program: Program, error: io::Error) {
+    let why = Reason(error);
+    let _ = match program {
+        Program::Times => eprintln!(rt; "times: standard output: {why}"),
+        Program::Dates => eprintln!(rt; "dates: standard output: {why}"),
+    };
 }
 
-// Whether standard input can be read. To read no byte takes none and does not wait.
-fn is_readable() -> bool {
+// Why standard input cannot be read, if so. To read no byte takes none and does not wait.
+fn unreadable<I: Read>(input: &mut I) -> Option<io::Error> {
     let mut byte = [0u8; 1];
-    let got = libc::read(0, &mut byte[..0]);
-    0 <= got
+    input.read(&mut byte[..0]).err()
 }
 
 // Hands the front of the room to standard output, and answers whether it was taken.
-fn hand_out(program: Program, out: &[u8; 65536], written: usize) -> bool
+fn hand_out<R: Print + Eprint>(rt: &R, program: Program, out: &[u8; 65536], written: usize) -> bool
     requires written_bound { written ≤ 65536 }
     requires handed { Handed program (take written out.now) }
 {
     let all: &[u8] = out;
-    if io::write_all(1, &all[..written]) {
-        return true;
+    match rt.write_all(&all[..written]) {
+        Ok(()) => true,
+        Err(error) => {
+            fail_output(rt, program, error);
+            false
+        }
     }
-    fail_output(program);
-    false
 }
 
 // One read, and its answers. A read of nothing is the end of the input.
-fn read_some(program: Program, start: Start, out: &mut [u8; 65536]) -> Turn
+fn read_some<R: Print + Eprint, I: Read>(
+    rt: &R,
+    input: &mut I,
+    program: Program,
+    start: Start,
+    out: &mut [u8; 65536],
+) -> Turn
     ensures { result.more ≡ true
         → Turned program start out.old result.start out.new }
 {
-    let mut input = [0u8; 1024];
-    let got = libc::read(0, &mut input);
-    if got < 0 {
-        fail_input(program);
-        return Turn { start, more: false };
-    }
-    let count = io::count(got, &input);
-    let after = answer_read(program, start, &input, count, out);
+    let mut bytes = [0u8; 1024];
+    let count = match input.read(&mut bytes) {
+        Ok(count) => count,
+        Err(error) => {
+            fail_input(rt, program, error);
+            return Turn { start, more: false };
+        }
+    };
+    let after = answer_read(program, start, &bytes, count, out);
     let next = after.start;
-    if !hand_out(program, out, after.written) {
+    if !hand_out(rt, program, out, after.written) {
         return Turn {
             start: next,
             more: false,
@@ -79,11 +94,17 @@ fn read_some(program: Program, start: Start, out: &mut [u8; 65536]) -> Turn
 }
 
 // Reads, answers and hands out to the end of the input. No input has more reads than are counted.
-fn answer_all(program: Program, begun: Start, out: &mut [u8; 65536]) {
+fn answer_all<R: Print + Eprint, I: Read>(
+    rt: &R,
+    input: &mut I,
+    program: Program,
+    begun: Start,
+    out: &mut [u8; 65536],
+) {
     let mut start = begun;
     let mut turns = i64::MAX;
     while turns > 0 {
-        let turn = read_some(program, start, out);
+        let turn = read_some(rt, input, program, start, out);
         start = turn.start;
         if !turn.more {
             break;
@@ -94,14 +115,15 @@ fn answer_all(program: Program, begun: Start, out: &mut [u8; 65536]) {
 
 // The whole program: standard input to its end, and on standard output what the program prints for
 // it, or a message on standard error.
-pub fn run(program: Program) {
-    if !is_readable() {
-        fail_input(program);
+pub fn run<R: Input + Print + Eprint>(rt: &R, program: Program) {
+    let mut input = rt.reader();
+    if let Some(error) = unreadable(&mut input) {
+        fail_input(rt, program, error);
         return;
     }
-    let mut out = io::large_buffer();
+    let mut out = [0u8; 65536];
     let begun = begin(program, &mut out);
-    if hand_out(program, &out, begun.written) {
-        answer_all(program, begun.start, &mut out);
+    if hand_out(rt, program, &out, begun.written) {
+        answer_all(rt, &mut input, program, begun.start, &mut out);
     }
 }

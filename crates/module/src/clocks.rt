@@ -15,8 +15,7 @@ use utc::utc_of_tt;
 // Given: TT in ms from J2000.0, any number.
 // Returned: the one UTC date and time of day that has this TT; or refusal 20.
 // Rule: docs/RULES.md, "UTC of a TT instant".
-#[unsafe(no_mangle)]
-pub extern "C" fn turbelicus_utc(tt: i64) -> TurbelicusClocked
+pub fn turbelicus_utc(tt: i64) -> TurbelicusClocked
     ensures { result ≡ clocked_out (clocked_answer (rule.utc_of_tt (tt_of tt))) }
 {
     clocked_out(utc_of_tt(Tt(tt)))

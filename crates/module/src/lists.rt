@@ -16,8 +16,7 @@ use answers::lists::{
 // Given: file, any bytes.
 // Returned: 0 to 64; or refusal 9, 10 or 5.
 // Rule: docs/RULES.md, "Lists".
-#[unsafe(no_mangle)]
-pub extern "C" fn turbelicus_list_count(file: &[u8]) -> TurbelicusCounted
+pub fn turbelicus_list_count(file: &[u8]) -> TurbelicusCounted
     ensures { result ≡ counted_out (listed_answer (list_count file.now)) }
 {
     counted_out(list_file::list_count(file))
@@ -28,8 +27,7 @@ pub extern "C" fn turbelicus_list_count(file: &[u8]) -> TurbelicusCounted
 // Given: file, any bytes; index, from 0.
 // Returned: the star; or refusal 9, 10 or 5; or 11 where the file has no such record.
 // Rule: docs/RULES.md, "Lists".
-#[unsafe(no_mangle)]
-pub extern "C" fn turbelicus_list_star(file: &[u8], index: usize) -> TurbelicusStarred
+pub fn turbelicus_list_star(file: &[u8], index: usize) -> TurbelicusStarred
     ensures { result ≡ starred_out (listed_star_answer (list_star file.now index)) }
 {
     starred_out(list_file::list_star(file, index))
@@ -42,8 +40,7 @@ pub extern "C" fn turbelicus_list_star(file: &[u8], index: usize) -> TurbelicusS
 // Returned: the file's length, and the file at the start of room; the bytes past it stay. Or
 // refusal 5 or 11, and all bytes stay; 11 also where the last star has not all its numbers.
 // Rule: docs/RULES.md, "Lists".
-#[unsafe(no_mangle)]
-pub extern "C" fn turbelicus_list_write(numbers: &[i64], room: &mut [u8]) -> TurbelicusWritten
+pub fn turbelicus_list_write(numbers: &[i64], room: &mut [u8]) -> TurbelicusWritten
     ensures { (result ≡ written_out (listed_answer
         (numbers_written numbers.now room.old)))
         × (room.new ≡ room_after_numbers numbers.now room.old) }

@@ -20,8 +20,7 @@ use answers::observed::{TurbelicusObserved, beside_out};
 // Returned: what `turbelicus_place` answers, and the observed altitude in µas; or refusal 1 to 6,
 // then 14.
 // Rule: docs/RULES.md, "Refraction".
-#[unsafe(no_mangle)]
-pub extern "C" fn turbelicus_observed_place(
+pub fn turbelicus_observed_place(
     year: i32,
     month: i32,
     day: i32,

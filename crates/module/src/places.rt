@@ -17,8 +17,7 @@ use rules::{Date, Moment, Site, Star, Time};
 // Returned: apparent right ascension and declination, azimuth (north through east) and altitude in
 // µas, each of right ascension and azimuth with a flag: 0 where there is none; or refusal 1 to 6.
 // Rule: docs/RULES.md, "Turns, readings, place".
-#[unsafe(no_mangle)]
-pub extern "C" fn turbelicus_place(
+pub fn turbelicus_place(
     year: i32,
     month: i32,
     day: i32,

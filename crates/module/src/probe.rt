@@ -35,8 +35,7 @@ fn take_kind(w: Weather, kind: i32, x: f32) -> Weathered
 // Returned: the record with the reading; or refusal 14 and the record as it was, where the reading,
 // or one that has come before, is not accepted, or the kind is another.
 // Rule: docs/RULES.md, "Refraction".
-#[unsafe(no_mangle)]
-pub extern "C" fn turbelicus_weather(
+pub fn turbelicus_weather(
     pressure: f32,
     temperature: f32,
     has_pressure: i32,
@@ -57,8 +56,7 @@ pub extern "C" fn turbelicus_weather(
 // Returned: the altitude and its lift in µas; or refusal 14, where a reading that has come is not
 // accepted.
 // Rule: docs/RULES.md, "Refraction".
-#[unsafe(no_mangle)]
-pub extern "C" fn turbelicus_observed_altitude(
+pub fn turbelicus_observed_altitude(
     altitude: i64,
     pressure: f32,
     temperature: f32,

@@ -15,8 +15,7 @@ use rules::Direction;
 // Given: x, y, z in parts of 2^30; axis, 1 to 3; angle in µas: any numbers.
 // Returned: the direction in parts of 2^30; or refusal 7 or 8.
 // Rule: docs/RULES.md, "Turns, readings, place".
-#[unsafe(no_mangle)]
-pub extern "C" fn turbelicus_turn(x: i64, y: i64, z: i64, axis: i64, angle: i64) -> TurbelicusTurned
+pub fn turbelicus_turn(x: i64, y: i64, z: i64, axis: i64, angle: i64) -> TurbelicusTurned
     ensures { result ≡ turned_out (turned_answer (rule.turned axis angle (direction_of x y z))) }
 {
     turned_out(turning::turn(Direction { x, y, z }, axis, angle))
@@ -27,8 +26,7 @@ pub extern "C" fn turbelicus_turn(x: i64, y: i64, z: i64, axis: i64, angle: i64)
 // Given: any two numbers.
 // Returned: 1 and µas from h towards v, 0 to C - 1; noughts for (0, 0), which has no angle.
 // Rule: docs/RULES.md, "Turns, readings, place".
-#[unsafe(no_mangle)]
-pub extern "C" fn turbelicus_reading(h: i32, v: i32) -> TurbelicusRead
+pub fn turbelicus_reading(h: i32, v: i32) -> TurbelicusRead
     ensures { result ≡ read_out (read_answer (reading h v)) }
 {
     read_out(reading::reading(h, v))

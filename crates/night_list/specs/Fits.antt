@@ -12,7 +12,8 @@ use Rattle.rules.specs.declared.Prepared.{Prepared}
 use Rattle.rules.specs.Dates.{instants}
 use Rattle.rules.specs.Night.{site_refused, night, night_at, night_of}
 use Rattle.laws.specs.Instants.{tt_within}
-use Rattle.laws.specs.Night.{NightFits, night_fits}
+use Rattle.laws.specs.Night.{NightFits}
+use Rattle.laws.proofs.Night.{night_fits}
 use Rattle.night_list_checks.specs.Plans.{PreparedFits}
 
 by_site : (m : Moment) (ut : Ut) (tt : Tt) (site : Site) (t : Bool) → instants m ≡ Instants.At ut tt

@@ -23,8 +23,9 @@ use Rattle.rules.specs.Place.{aberrated}
 use Rattle.laws.specs.Angles.{pair_sized}
 use Rattle.laws.specs.Directions.{PartsLe, plus}
 use Rattle.laws.specs.Night as law
+use Rattle.laws.proofs.Night as law_proved
 use Rattle.laws.specs.Aberration.{plus_root_ge}
-use Rattle.laws.specs.Place.{aberrated_accepted}
+use Rattle.laws.proofs.Place.{aberrated_accepted}
 use Rattle.night_list.specs.Fits.{ready_fits}
 
 -- ---- the step
@@ -61,7 +62,7 @@ by_size a b = law.aberration_y_le (pair a) (pair b) (pair_sized a) (pair_sized b
 
 -- and so is each part of what is added
 pub added_size : (a b c : ℤ) → PartsLe 108475 (aberration (pair a) (pair b) (pair c))
-added_size a b c = law.aberration_le (pair a) (pair b) (pair_sized a) (pair_sized b) (pair c) (pair_sized c)
+added_size a b c = law_proved.aberration_le (pair a) (pair b) (pair_sized a) (pair_sized b) (pair c) (pair_sized c)
 
 -- each of bx and by lies at most 1,783 parts in 2^30 of a radian, 0.3425'', from that of the circle
 pub bx_from_the_circle : (a b : ℤ) → nat_abs (aberration_x (pair a) (pair b) -ℤ circle_x (pair a)) ≤ 1783

@@ -28,8 +28,8 @@ use Rattle.rules.specs.Reading.{reading}
 use Rattle.rules.specs.Place.{place}
 use Rattle.laws.specs.UpTo.{UpTo}
 use Rattle.laws.specs.Polynomials.{polynomial_near}
-use Rattle.laws.specs.Angles.{pair_near}
-use Rattle.laws.specs.Reading.{reading_reads}
+use Rattle.laws.proofs.Angles.{pair_near}
+use Rattle.laws.proofs.Reading.{reading_reads}
 use Rattle.laws.specs.Place.{place_ranges}
 
 -- ---- polynomials

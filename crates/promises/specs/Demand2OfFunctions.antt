@@ -31,7 +31,7 @@ use Rattle.rules.specs.Precession.{obliquity_row}
 use Rattle.rules.specs.Sun.{perihelion_row}
 use Rattle.rules.specs.Reading.{reading, Reads}
 use Rattle.rules.specs.Place as places
-use Rattle.laws.specs.Reading as readings
+use Rattle.laws.proofs.Reading as readings
 use Rattle.laws.specs.RefusalNumbers.{number_pos}
 use Rattle.answers.specs.Answers.{placed_out, read_out}
 use Rattle.laws.specs.PlaceAnswers.{read_of, read_again}

@@ -8,7 +8,8 @@ use Rattle.rules.specs.declared.Turned.{Turned}
 use Rattle.rules.specs.Length.{squares}
 use Rattle.rules.specs.Turning.{Accepted}
 use Rattle.rules.specs.Chain.{Turn, AcceptedTurns, way_back, turned_by, Answers, Within}
-use Rattle.laws.specs.WayBack.{append_accepted, take_accepted, way_back_accepted, turned_by_accepted, way_back_near}
+use Rattle.laws.specs.WayBack.{append_accepted, take_accepted, way_back_accepted}
+use Rattle.laws.proofs.WayBack.{turned_by_accepted, way_back_near}
 
 -- of a direction v and a list of turns
 pub record Demand3 (v : Direction) (ts : List Turn) : Type 0 where

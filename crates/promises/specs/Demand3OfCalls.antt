@@ -17,7 +17,8 @@ use Rattle.rules.specs.Answers.{turned_answer}
 use Rattle.rules.specs.Length.{squares}
 use Rattle.rules.specs.Turning.{Accepted, turned}
 use Rattle.rules.specs.Chain.{Turn, AcceptedTurns, none, more, way_back, turned_by, Answers, Within}
-use Rattle.laws.specs.WayBack.{append_accepted, way_back_accepted, turned_by_accepted, way_back_near}
+use Rattle.laws.specs.WayBack.{append_accepted, way_back_accepted}
+use Rattle.laws.proofs.WayBack.{turned_by_accepted, way_back_near}
 use Rattle.answers.specs.Given.{direction_of}
 use Rattle.answers.specs.Answers.{turned_out}
 use Rattle.answers.specs.declared.turns.TurbelicusTurned.{TurbelicusTurned}

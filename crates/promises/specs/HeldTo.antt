@@ -22,10 +22,13 @@ use Rattle.rules.specs.Place.{place}
 use Rattle.rules.specs.ListReading.{noughts}
 use Rattle.rules.specs.NightList.{mark_of, entry_of, worked, filled, marked, list_refused, listed_in, night_list, worked_in}
 use Rattle.rules.specs.NightList.{entries_after_night}
-use Rattle.laws.specs.SampleNight.{evening, here, made_ready}
-use Rattle.laws.specs.SamplePlace.{sirius, equinox, sirius_place, equinox_place, sirius_place_lem, sirius_stands}
-use Rattle.laws.specs.SamplePlace.{equinox_stands}
-use Rattle.laws.specs.SampleNoAngle.{pole_star, pole_place_lem}
+use Rattle.laws.specs.SampleNight.{evening, here}
+use Rattle.laws.proofs.SampleNight.{made_ready}
+use Rattle.laws.specs.SamplePlace.{sirius, equinox, sirius_place, equinox_place}
+use Rattle.laws.proofs.SamplePlace.{sirius_place_lem, sirius_stands}
+use Rattle.laws.proofs.SamplePlace.{equinox_stands}
+use Rattle.laws.specs.SampleNoAngle.{pole_star}
+use Rattle.laws.proofs.SampleNoAngle.{pole_place_lem}
 
 -- ---- "Refusing everything, or one fixed place for all stars, breaks demand 2"
 

@@ -18,13 +18,14 @@ use Rattle.laws.specs.Ranges.{Between}
 use Rattle.laws.specs.ClockOrder.{Earlier}
 use Rattle.laws.specs.Stretch as stretch
 use Rattle.laws.specs.NeverFold as law
+use Rattle.laws.proofs.NeverFold as law_proved
 
 -- ---- accepted UTC times
 
 -- "two accepted UTC times have the same TT only if they are the same"
 pub same_only : (m m' : Moment) (v v' : Ut) (t : Tt) → instants m ≡ Instants.At v t → instants m' ≡ Instants.At v' t
     → utc_of m ≡ utc_of m'
-same_only m m' v v' t e e' = law.same_tt m m' v v' t t e e' (λ i. t)
+same_only m m' v v' t e e' = law_proved.same_tt m m' v v' t t e e' (λ i. t)
 
 -- "a later one has the larger TT through every added second": later by year, month, day, hour, minute, second and ms,
 -- in this order
@@ -59,7 +60,7 @@ from_exactly_one t h =
       utc = utc_at t.0;
       answered = answer;
       comes = law.utc_then_tt t (utc_at t.0) answer;
-      only = law.only_answered t (utc_at t.0) answer;
+      only = law_proved.only_answered t (utc_at t.0) answer;
     }
 
 -- TT to UTC and back, with any UT1−UTC
@@ -69,7 +70,7 @@ utc_then_tt t u e d h = law.utc_then_tt t u e d h
 
 -- UTC to TT and back
 pub tt_then_utc : (m : Moment) (v : Ut) (t : Tt) → instants m ≡ Instants.At v t → utc_of_tt t ≡ Clocked.At (utc_of m)
-tt_then_utc m v t e = law.tt_then_utc t m v e
+tt_then_utc m v t e = law_proved.tt_then_utc t m v e
 
 -- ---- "20, a TT outside that stretch, the only one here"
 

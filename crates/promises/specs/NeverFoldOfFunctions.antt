@@ -20,6 +20,7 @@ use Rattle.rules.specs.Utc.{moment_with, utc_of}
 use Rattle.laws.specs.Ranges.{Between}
 use Rattle.laws.specs.ClockOrder.{Earlier}
 use Rattle.laws.specs.NeverFold as law
+use Rattle.laws.proofs.NeverFold as law_proved
 use Rattle.promises.specs.OfContracts.{together}
 use Rattle.promises.specs.Calls.{Call, told}
 use Rattle.promises.specs.NeverFold as rules
@@ -46,7 +47,7 @@ module _ {M : Type 1} {𝓤 : Ura M} (𝓛 : Logic 𝓤) (mem : Memory → SProp
       → ent 𝓤 (conj 𝓤 (instants_told one) (instants_told other))
       (fact 𝓤 (utc_of one.passed.0 ≡ utc_of other.passed.0))
   instants_same_only one other v v' t e e' = together 𝓤 (id⊢ 𝓤 _) (id⊢ 𝓤 _) (λ p q.
-      law.same_tt one.passed.0 other.passed.0 v v' t t (sym p ∙ e) (sym q ∙ e') (λ i. t))
+      law_proved.same_tt one.passed.0 other.passed.0 v v' t t (sym p ∙ e) (sym q ∙ e') (λ i. t))
 
   pub instants_later_larger : (one other : InstantsCall) (v v' : Ut) (t t' : Tt)
       → one.answer ≡ Instants.At v t → other.answer ≡ Instants.At v' t'

@@ -25,15 +25,17 @@ use Rattle.rules.specs.Stars.{star_refused}
 use Rattle.rules.specs.Place.{apparent, overhead, place_in, place}
 use Rattle.rules.specs.NightList.{entry_of, worked}
 use Rattle.laws.specs.Instants.{tt_within}
-use Rattle.laws.specs.Night.{night_fits}
+use Rattle.laws.proofs.Night.{night_fits}
 use Rattle.laws.specs.Place.{in_night}
 use Rattle.laws.specs.NoAngle as law
 use Rattle.laws.specs.PlaceAnswers as answers
 use Rattle.laws.specs.Marks.{OnAxis, LacksOne, place_of}
 use Rattle.laws.specs.Marks as marks
+use Rattle.laws.proofs.Marks as marks_proved
 use Rattle.laws.specs.SampleNight.{evening, here}
 use Rattle.laws.specs.SampleNoAngle.{pole_star, pole_place, zenith_star, zenith_site, zenith_place, pole_site, pole_and_zenith}
 use Rattle.laws.specs.SampleNoAngle as samples
+use Rattle.laws.proofs.SampleNoAngle as samples_proved
 use Rattle.night_list.specs.Fits.{ready_fits}
 
 -- ---- a reading
@@ -85,7 +87,7 @@ two_heights m star site p e =
     let f = night_fits i.ut i.tt_at site (tt_within m i.ut i.tt_at i.at) in
     subst (λ p. (p.ra ≡ Read.NoAngle ↔ nat_abs p.declination ≡ quarter)
     × (p.azimuth ≡ Read.NoAngle ↔ nat_abs p.altitude ≡ quarter)) i.is
-    (marks.no_ra_by_declination n f star, marks.no_azimuth_by_altitude n f star)
+    (marks_proved.no_ra_by_declination n f star, marks_proved.no_azimuth_by_altitude n f star)
 
 pub place_heights : (m : Moment) (star : Star) (site : Site) (p : Place) → place m star site ≡ Placed.At p
     → HeightsTold p
@@ -97,7 +99,7 @@ place_heights m star site p e =
 pub true_places : (place evening pole_star here ≡ Placed.At pole_place)
     × ((place evening zenith_star zenith_site ≡ Placed.At zenith_place)
     × (place evening pole_star pole_site ≡ Placed.At pole_and_zenith))
-true_places = (samples.pole_stands, (samples.zenith_stands, samples.pole_and_zenith_stand))
+true_places = (samples_proved.pole_stands, (samples_proved.zenith_stands, samples_proved.pole_and_zenith_stand))
 
 -- ---- the night list
 
@@ -117,4 +119,4 @@ module _ (n : Night) (e : Entry) where
 pub entry_tells : (m : Moment) (site : Site) (n : Night) (e : Entry) → night_of m site ≡ Prepared.For n
     → star_refused e.star ≡ false → place_of (worked n e).angles ≡ place_in n e.star
 unfolding worked entry_of
-entry_tells m site n e r h = rw h (marks.place_of_entry n e.star (ready_fits m site n r))
+entry_tells m site n e r h = rw h (marks_proved.place_of_entry n e.star (ready_fits m site n r))

@@ -19,6 +19,7 @@ use Rattle.laws.specs.Nearest.{Nearest}
 use Rattle.laws.specs.Floats as floats
 use Rattle.laws.specs.Weather.{FieldsInRange}
 use Rattle.laws.specs.WeatherOfC as kept
+use Rattle.laws.proofs.WeatherOfC as kept_proved
 use Rattle.laws.specs.RefractionArgument.{above_nought, argument_sine}
 use Rattle.laws.specs.Refraction as lifts
 use Rattle.laws.specs.Air as air
@@ -46,11 +47,11 @@ pub handed_in_range : (w v : Weather) → recorded w ≡ Weathered.Now v → Fie
 handed_in_range w v e = (kept.recorded_keeps w v e).fields
 
 pub taken_in_range : (w v : Weather) (r : Reading) → taken_from w r ≡ Weathered.Now v → FieldsInRange v
-taken_in_range w v r e = (kept.taken_from_keeps w v r e).fields
+taken_in_range w v r e = (kept_proved.taken_from_keeps w v r e).fields
 
 -- what was answered is taken back as it is
 pub taken_back : (w v : Weather) (r : Reading) → taken_from w r ≡ Weathered.Now v → recorded v ≡ Weathered.Now v
-taken_back w v r e = kept.recorded_kept v (kept.taken_from_keeps w v r e)
+taken_back w v r e = kept.recorded_kept v (kept_proved.taken_from_keeps w v r e)
 
 -- and a record of which nothing has come, noughts say, is the one before any reading
 pub noughts_begin : (p t : Float)

@@ -1,3 +1,5 @@
+#![tactic(auto)]
+
 // The Sun's longitude, of TT.
 
 pub mod perihelion;

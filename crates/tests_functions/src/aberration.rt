@@ -23,8 +23,7 @@ pub struct TestsAberration {
 }
 
 // Aberration at a TT instant.
-#[unsafe(no_mangle)]
-pub extern "C" fn tests_aberration(tt: i64) -> TestsAberration
+pub fn tests_aberration(tt: i64) -> TestsAberration
     ensures { result ≡ tests_aberration (aberration_at (in_tt tt)) }
 {
     if instant_refused(tt) {

@@ -101,24 +101,21 @@ fn nutated_out(a: Nutated) -> TestsNutated
 }
 
 // Precession at a TT instant.
-#[unsafe(no_mangle)]
-pub extern "C" fn tests_precession(tt: i64) -> TestsPrecessed
+pub fn tests_precession(tt: i64) -> TestsPrecessed
     ensures { result ≡ tests_precessed (precessed_answer (precession_at (in_tt tt))) }
 {
     precessed_out(precession::precession(Tt(tt)))
 }
 
 // The five arguments of nutation at a TT instant.
-#[unsafe(no_mangle)]
-pub extern "C" fn tests_arguments(tt: i64) -> TestsFiveArguments
+pub fn tests_arguments(tt: i64) -> TestsFiveArguments
     ensures { result ≡ tests_five_arguments (five_arguments_answer (arguments_at (in_tt tt))) }
 {
     five_arguments_out(arguments::arguments(Tt(tt)))
 }
 
 // Nutation at a TT instant.
-#[unsafe(no_mangle)]
-pub extern "C" fn tests_nutation(tt: i64) -> TestsNutated
+pub fn tests_nutation(tt: i64) -> TestsNutated
     ensures { result ≡ tests_nutated (nutated_answer (nutation_at (in_tt tt))) }
 {
     nutated_out(nutation::nutation(Tt(tt)))

@@ -37,40 +37,35 @@ fn angle_out(a: Angle) -> TestsAngle
 }
 
 // The mean obliquity at a TT instant.
-#[unsafe(no_mangle)]
-pub extern "C" fn tests_obliquity(tt: i64) -> TestsAngle
+pub fn tests_obliquity(tt: i64) -> TestsAngle
     ensures { result ≡ tests_angle (angle_answer (obliquity_at (in_tt tt))) }
 {
     angle_out(precession::obliquity(Tt(tt)))
 }
 
 // The Sun's longitude at a TT instant.
-#[unsafe(no_mangle)]
-pub extern "C" fn tests_sun(tt: i64) -> TestsAngle
+pub fn tests_sun(tt: i64) -> TestsAngle
     ensures { result ≡ tests_angle (angle_answer (sun_longitude_at (in_tt tt))) }
 {
     angle_out(sun::sun_longitude(Tt(tt)))
 }
 
 // The longitude of perihelion at a TT instant.
-#[unsafe(no_mangle)]
-pub extern "C" fn tests_perihelion(tt: i64) -> TestsAngle
+pub fn tests_perihelion(tt: i64) -> TestsAngle
     ensures { result ≡ tests_angle (angle_answer (perihelion_at (in_tt tt))) }
 {
     angle_out(sun::perihelion::perihelion(Tt(tt)))
 }
 
 // The sidereal angle at a UT instant.
-#[unsafe(no_mangle)]
-pub extern "C" fn tests_sidereal(ut: i64) -> TestsAngle
+pub fn tests_sidereal(ut: i64) -> TestsAngle
     ensures { result ≡ tests_angle (angle_answer (sidereal_at (in_ut ut))) }
 {
     angle_out(sidereal::sidereal(Ut(ut)))
 }
 
 // The Sun's mean longitude at a TT instant.
-#[unsafe(no_mangle)]
-pub extern "C" fn tests_mean_longitude(tt: i64) -> TestsAngle
+pub fn tests_mean_longitude(tt: i64) -> TestsAngle
     ensures { result ≡ tests_angle (angle_answer (angle_at tt (mean_longitude (in_tt tt)))) }
 {
     if instant_refused(tt) {
@@ -80,8 +75,7 @@ pub extern "C" fn tests_mean_longitude(tt: i64) -> TestsAngle
 }
 
 // The sidereal polynomial at a UT instant.
-#[unsafe(no_mangle)]
-pub extern "C" fn tests_sidereal_polynomial(ut: i64) -> TestsAngle
+pub fn tests_sidereal_polynomial(ut: i64) -> TestsAngle
     ensures { result ≡ tests_angle (angle_answer (angle_at ut (sidereal_polynomial (in_ut ut)))) }
 {
     if instant_refused(ut) {

@@ -61,8 +61,7 @@ fn date_out(a: Dated) -> TestsDate
 }
 
 // The day number of a date.
-#[unsafe(no_mangle)]
-pub extern "C" fn tests_day_of(year: i32, month: i32, day: i32) -> TestsDay
+pub fn tests_day_of(year: i32, month: i32, day: i32) -> TestsDay
     ensures { result ≡ tests_day (numbered_answer (day_of (in_date year month day))) }
 {
     day_out(calendar::day_of(Date {
@@ -73,8 +72,7 @@ pub extern "C" fn tests_day_of(year: i32, month: i32, day: i32) -> TestsDay
 }
 
 // The date of a day number.
-#[unsafe(no_mangle)]
-pub extern "C" fn tests_date_of(day: i64) -> TestsDate
+pub fn tests_date_of(day: i64) -> TestsDate
     ensures { result ≡ tests_date (dated_answer (date_of day)) }
 {
     date_out(calendar::date_of(day))

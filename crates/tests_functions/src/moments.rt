@@ -34,8 +34,7 @@ fn instants_out(a: Instants) -> TestsInstants
 }
 
 // UT and TT of a UTC date with its time of day and UT1-UTC.
-#[unsafe(no_mangle)]
-pub extern "C" fn tests_instants(
+pub fn tests_instants(
     year: i32,
     month: i32,
     day: i32,

@@ -24,8 +24,7 @@ const MOST_RESULT: i64 = 2305843009213693952;
 const MOST_DIVISOR: i64 = 4611686018427387904;
 
 // Rnd(a / b), for b from 1 to 2^62.
-#[unsafe(no_mangle)]
-pub extern "C" fn tests_rnd_quotient(a: i64, b: i64) -> Tried
+pub fn tests_rnd_quotient(a: i64, b: i64) -> Tried
     ensures { result ≡ rnd_quotient_tried a b }
 {
     if !whole::is_between(1, MOST_DIVISOR, b) {
@@ -38,8 +37,7 @@ pub extern "C" fn tests_rnd_quotient(a: i64, b: i64) -> Tried
 }
 
 // The whole root of n, for n not negative.
-#[unsafe(no_mangle)]
-pub extern "C" fn tests_whole_root(n: i64) -> Tried
+pub fn tests_whole_root(n: i64) -> Tried
     ensures { result ≡ whole_root_tried n }
 {
     if n < 0 {
@@ -52,8 +50,7 @@ pub extern "C" fn tests_whole_root(n: i64) -> Tried
 }
 
 // a modulo C.
-#[unsafe(no_mangle)]
-pub extern "C" fn tests_on_circle(a: i64) -> Tried
+pub fn tests_on_circle(a: i64) -> Tried
     ensures { result ≡ on_circle_tried a }
 {
     Tried {
@@ -64,8 +61,7 @@ pub extern "C" fn tests_on_circle(a: i64) -> Tried
 
 // Rnd(a * b / d), for d from 1 to 2^42, a to 2^42 and b to 2^60 in size, b to 2^61 / (|a / d| + 1)
 // too.
-#[unsafe(no_mangle)]
-pub extern "C" fn tests_rnd_product_quotient(a: i64, b: i64, d: i64) -> Tried
+pub fn tests_rnd_product_quotient(a: i64, b: i64, d: i64) -> Tried
     ensures { result ≡ rnd_product_quotient_tried a b d }
 {
     if !product_fits(a, b, d) {

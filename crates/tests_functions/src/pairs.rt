@@ -12,8 +12,7 @@ pub struct TestsPair {
 }
 
 // The pair of an angle in µas.
-#[unsafe(no_mangle)]
-pub extern "C" fn tests_pair(angle: i64) -> TestsPair
+pub fn tests_pair(angle: i64) -> TestsPair
     ensures { result ≡ tests_pair angle }
 {
     let p = circle::pair(angle);

@@ -1,4 +1,4 @@
-// Exports for the tests alone: the functions over lent entries, of the crates `entries_read`,
+// Functions for the tests alone: the functions over lent entries, of the crates `entries_read`,
 // `entries_write` and `night_list`, which `module` does not show. It is not shipped.
 
 ghost use Rattle.std.specs.Prelude.{◌≡◌};
@@ -16,8 +16,7 @@ use night_list::night_list;
 use rules::{Date, Entry, Moment, Site, Time};
 
 // A list file read into entries.
-#[unsafe(no_mangle)]
-pub extern "C" fn tests_list_read(file: &[u8], entries: &mut [Entry]) -> TurbelicusCounted
+pub fn tests_list_read(file: &[u8], entries: &mut [Entry]) -> TurbelicusCounted
     ensures { (result ≡ counted_out (listed_answer
         (list_read file.now entries.old)))
         × (entries.new ≡ entries_after_read file.now entries.old) }
@@ -26,8 +25,7 @@ pub extern "C" fn tests_list_read(file: &[u8], entries: &mut [Entry]) -> Turbeli
 }
 
 // The stars of entries written as a list file.
-#[unsafe(no_mangle)]
-pub extern "C" fn tests_list_write(entries: &[Entry], room: &mut [u8]) -> TurbelicusCounted
+pub fn tests_list_write(entries: &[Entry], room: &mut [u8]) -> TurbelicusCounted
     ensures { (result ≡ counted_out (listed_answer
         (list_written entries.now room.old)))
         × (room.new ≡ room_after_write entries.now room.old) }
@@ -36,8 +34,7 @@ pub extern "C" fn tests_list_write(entries: &[Entry], room: &mut [u8]) -> Turbel
 }
 
 // A night list, worked where it stands.
-#[unsafe(no_mangle)]
-pub extern "C" fn tests_night_list(
+pub fn tests_night_list(
     year: i32,
     month: i32,
     day: i32,

@@ -2,12 +2,17 @@
 // a header, then for each line the day number, UT and TT, or the refusal. A last line without its
 // end counts.
 
-use line_reads::Program;
+#![tactic(auto)]
 
-fn main() {
-    if 1 < os::arg_count() {
-        io::write_all(2, b"usage: times < FILE\n");
+use line_reads::Program;
+use std::env::FillError;
+use std::rt::Env;
+
+fn main(rt: HostRuntime) {
+    let first = rt.arg(1, &mut []);
+    if !matches!(first, Err(FillError::NotPresent)) {
+        let _ = eprintln!(rt; "usage: times < FILE");
         return;
     }
-    line_program::run(Program::Times);
+    line_program::run(&rt, Program::Times);
 }

@@ -2,7 +2,7 @@
 use mathlib.Core.Path.{◌≡◌, ap, ◌∙◌}
 use borrow.Author.Rules.{rules}
 use Rattle.rules.specs.Place.{apparent, overhead, readings, place_in}
-use Rattle.laws.specs.Place.{apparent_accepted, overhead_accepted}
+use Rattle.laws.proofs.Place.{apparent_accepted, overhead_accepted}
 use Rattle.place.proofs.place_in.Statement.{statement}
 use Rattle.place.proofs.place_in.Tie as tie
 

@@ -6,7 +6,7 @@ use Rattle.rules.specs.declared.Placed.{Placed}
 use Rattle.rules.specs.Night.{site_refused, night}
 use Rattle.rules.specs.Stars.{star_refused}
 use Rattle.rules.specs.Place.{place_in, place_at}
-use Rattle.laws.specs.Night.{night_fits}
+use Rattle.laws.proofs.Night.{night_fits}
 use Rattle.place.proofs.placed.Statement.{statement}
 use Rattle.place.proofs.placed.Tie as tie
 

@@ -11,7 +11,7 @@ use Rattle.rules.specs.Length.{to_length, brought_to_length}
 use Rattle.rules.specs.Turning.{direction_refused, turn_refused, turn, turned}
 use Rattle.laws.specs.Checks.{FirstGiven}
 use Rattle.laws.specs.Accepted.{accepted_of_not_refused}
-use Rattle.laws.specs.Turning.{turned_accepted}
+use Rattle.laws.proofs.Turning.{turned_accepted}
 use Rattle.promises.specs.Demand1.Checks.{turn_checks, length_checks}
 use Rattle.promises.specs.Demand1.InOrder.{first_map, refused_exactly}
 

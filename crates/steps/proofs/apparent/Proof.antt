@@ -9,8 +9,9 @@ use mir.Facts.{to_z-of_z}
 use Rattle.words.specs.Fits.{fits32, fits64, held64}
 use Rattle.rules.specs.declared.Direction.{Direction}
 use Rattle.rules.specs.Place.{moved, directed, precessed, aberrated, nutated, apparent}
-use Rattle.laws.specs.Place.{StarRanges, star_ranges, moved_le, directed_accepted, precessed_accepted}
-use Rattle.laws.specs.Place.{aberrated_accepted}
+use Rattle.laws.specs.Place.{StarRanges, star_ranges, moved_le}
+use Rattle.laws.proofs.Place.{directed_accepted, precessed_accepted}
+use Rattle.laws.proofs.Place.{aberrated_accepted}
 use Rattle.steps.proofs.apparent.Statement.{statement}
 use Rattle.steps.proofs.apparent.Tie as tie
 

@@ -13,7 +13,7 @@ use Rattle.rules.specs.Circle.{pair}
 use Rattle.rules.specs.Turning.{Accepted, turn_by}
 use Rattle.rules.specs.Place.{directed}
 use Rattle.laws.specs.Angles.{pair_length}
-use Rattle.laws.specs.Turning.{turn_by_accepted}
+use Rattle.laws.proofs.Turning.{turn_by_accepted}
 use Rattle.laws.specs.Place.{ahead, ahead_accepted}
 use Rattle.steps.proofs.directed.Statement.{statement}
 use Rattle.steps.proofs.directed.Tie as tie

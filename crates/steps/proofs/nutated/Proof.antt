@@ -5,7 +5,7 @@ use Rattle.rules.specs.Units.{+◌}
 use Rattle.rules.specs.Length.{squares}
 use Rattle.rules.specs.Turning.{Accepted, turn_by}
 use Rattle.rules.specs.Place.{nutated}
-use Rattle.laws.specs.Turning.{turn_by_accepted}
+use Rattle.laws.proofs.Turning.{turn_by_accepted}
 use Rattle.steps.proofs.nutated.Statement.{statement}
 use Rattle.steps.proofs.nutated.Tie as tie
 

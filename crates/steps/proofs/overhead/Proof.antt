@@ -3,7 +3,7 @@ use mathlib.Core.Path.{ap, ◌∙◌}
 use Rattle.rules.specs.Units.{+◌}
 use Rattle.rules.specs.Turning.{turn_by}
 use Rattle.rules.specs.Place.{overhead}
-use Rattle.laws.specs.Turning.{turn_by_accepted}
+use Rattle.laws.proofs.Turning.{turn_by_accepted}
 use Rattle.steps.proofs.overhead.Statement.{statement}
 use Rattle.steps.proofs.overhead.Tie as tie
 

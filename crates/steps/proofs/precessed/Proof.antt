@@ -5,7 +5,7 @@ use Rattle.rules.specs.Units.{+◌}
 use Rattle.rules.specs.Length.{squares}
 use Rattle.rules.specs.Turning.{Accepted, turn_by}
 use Rattle.rules.specs.Place.{precessed}
-use Rattle.laws.specs.Turning.{turn_by_accepted}
+use Rattle.laws.proofs.Turning.{turn_by_accepted}
 use Rattle.steps.proofs.precessed.Statement.{statement}
 use Rattle.steps.proofs.precessed.Tie as tie
 

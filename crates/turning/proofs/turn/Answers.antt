@@ -9,7 +9,7 @@ use Rattle.rules.specs.Circle.{pair}
 use Rattle.rules.specs.Turning.{Accepted, direction_refused, turn_refused, turn, turned}
 use Rattle.laws.specs.Angles.{pair_length}
 use Rattle.laws.specs.Accepted.{accepted_of_not_refused}
-use Rattle.laws.specs.Turning.{turned_accepted}
+use Rattle.laws.proofs.Turning.{turned_accepted}
 use Rattle.words.specs.Tests.{not_taken, not_left}
 use Rattle.turning.proofs.turn.Goals as goal
 use Rattle.turning.proofs.turn.Lts as lts

@@ -6,7 +6,7 @@ use mir.Facts.{to_z-of_z}
 use Rattle.rules.specs.declared.Direction.{Direction}
 use Rattle.rules.specs.Length.{to_length}
 use Rattle.rules.specs.Turning.{turn_about, turn_by}
-use Rattle.laws.specs.Turning.{turn_about_fits, turn_about_root_pos}
+use Rattle.laws.proofs.Turning.{turn_about_fits, turn_about_root_pos}
 use Rattle.length.specs.Given.{NotNought}
 use Rattle.turning.proofs.turn_by.Goals as goal
 

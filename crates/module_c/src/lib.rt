@@ -1,0 +1,11 @@
+#![tactic(auto)]
+
+// What C calls of `module`, as an archive: each function is that of `module` by its C name, with its
+// clauses. include/turbelicus.h says the same in C.
+
+pub mod clocks;
+pub mod lists;
+pub mod observed;
+pub mod places;
+pub mod probe;
+pub mod turns;
