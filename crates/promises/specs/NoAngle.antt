@@ -34,7 +34,6 @@ use Rattle.laws.specs.Marks as marks
 use Rattle.laws.proofs.Marks as marks_proved
 use Rattle.laws.specs.SampleNight.{evening, here}
 use Rattle.laws.specs.SampleNoAngle.{pole_star, pole_place, zenith_star, zenith_site, zenith_place, pole_site, pole_and_zenith}
-use Rattle.laws.specs.SampleNoAngle as samples
 use Rattle.laws.proofs.SampleNoAngle as samples_proved
 use Rattle.night_list.specs.Fits.{ready_fits}
 
