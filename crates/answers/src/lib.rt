@@ -1,3 +1,5 @@
+#![tactic(auto)]
+
 // The answers that C gets: a struct for each, the number of the refusal and noughts, or 0 and the
 // values.
 

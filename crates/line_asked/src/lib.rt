@@ -1,3 +1,5 @@
+#![tactic(auto)]
+
 // The line that `places` reads.
 
 ghost use Rattle.std.specs.Prelude.{◌≡◌};

@@ -1,3 +1,5 @@
+#![tactic(auto)]
+
 // The lines of our own program `dates`, not document 01's: the answer to a line, printed.
 
 ghost use Rattle.std.specs.Prelude.{◌≡◌, ◌≤◌, length};

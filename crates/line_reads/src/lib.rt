@@ -1,3 +1,5 @@
+#![tactic(auto)]
+
 // The lines of `times` and of `dates` as reads bring them: each read is answered by itself, line by
 // line, and the start of the line that it breaks off in is kept for the next.
 

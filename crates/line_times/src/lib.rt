@@ -1,3 +1,5 @@
+#![tactic(auto)]
+
 // The lines of `times`, docs/RULES.md, "Dates": the answer to a line, printed.
 
 ghost use Rattle.std.specs.Prelude.{◌≡◌, length};

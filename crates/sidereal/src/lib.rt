@@ -1,3 +1,5 @@
+#![tactic(auto)]
+
 // The sidereal angle, of UT.
 
 ghost use Rattle.std.specs.Prelude.{◌≡◌};

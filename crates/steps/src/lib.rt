@@ -1,3 +1,5 @@
+#![tactic(auto)]
+
 // The six steps of a place, in their order: a star of the catalogue in, what is read from its
 // directions out.
 

@@ -22,49 +22,49 @@ use Rattle.sun.proofs.centre_of.Reads as reads
 
 -- ---- the start, from where each factor is known
 
-abbrev at_sine.before : goal.After-sine → goal.Start
+abbrev at_sine : lts.After-sine tie.the-claims reads.Pre reads.Post tie.handed_clauses → goal.Start
 at_sine c = c.before.before.before.before
 
 abbrev at_linear : goal.After-linear → goal.Start
-at_linear c = at_sine c.before.before
+at_linear c = c.before.before.before.before.before.before
 
 abbrev at_sine2 : goal.After-sine-2 → goal.Start
-at_sine2 c = at_linear c.before
+at_sine2 c = c.before.before.before.before.before.before.before
 
 abbrev at_sine3 : goal.After-sine-third → goal.Start
-at_sine3 c = at_sine2 c.before
+at_sine3 c = c.before.before.before.before.before.before.before.before
 
 -- ---- what the words hold
 
 t_held : (c : goal.Start) → to_z w64 (of_z w64 c.args.t.0) ≡ c.args.t.0
 t_held c = instant_held c.args.t.0 c.requires
 
-l_holds : (c : lts.After-sun_of tie.the-claims reads.Pre reads.Post)
+l_holds : (c : lts.After-sun_of tie.the-claims reads.Pre reads.Post tie.handed_clauses)
     → Holds (bits c.sun_of-l.result) (arguments c.args.t).sun (sizes sun_row)
 unfolding arguments
 l_holds c = got c.sun_of-l.ensures (polynomial_le sun_row c.args.t.0 c.requires) tt
 
-double_holds : (c : lts.After-sun_of tie.the-claims reads.Pre reads.Post)
+double_holds : (c : lts.After-sun_of tie.the-claims reads.Pre reads.Post tie.handed_clauses)
     → Holds (2 *ʷ bits c.sun_of-l.result) (pos 2 *ℤ (arguments c.args.t).sun) (2 * sizes sun_row)
 double_holds c = mul (lit 2 tt) (l_holds c) tt
 
-triple_holds : (c : lts.After-sun_of tie.the-claims reads.Pre reads.Post)
+triple_holds : (c : lts.After-sun_of tie.the-claims reads.Pre reads.Post tie.handed_clauses)
     → Holds (3 *ʷ bits c.sun_of-l.result) (pos 3 *ℤ (arguments c.args.t).sun) (3 * sizes sun_row)
 triple_holds c = mul (lit 3 tt) (l_holds c) tt
 
-first_amplitude : (c : goal.After-quadratic)
+first_amplitude : (c : lts.After-quadratic tie.the-claims reads.Pre reads.Post tie.handed_clauses)
     → Holds (bits c.quadratic.result) (polynomial first_row c.args.t.0) (sizes first_row)
 first_amplitude c =
     let start = c.before.before.before in
     got (simp t_held at c.quadratic.ensures) (polynomial_le first_row start.args.t.0 start.requires) tt
 
-first_sine : (c : goal.After-sine)
+first_sine : (c : lts.After-sine tie.the-claims reads.Pre reads.Post tie.handed_clauses)
     → Holds (bits c.sine.result) (pair (arguments (at_sine c).args.t).sun).sine unit
 first_sine c =
     let l = c.before.before.before in
     got (rw (l_holds l).value at c.sine.ensures) (pair_sized (arguments l.args.t).sun).sine_le tt
 
-first_holds : (c : goal.After-sine)
+first_holds : (c : lts.After-sine tie.the-claims reads.Pre reads.Post tie.handed_clauses)
     → Holds (bits c.quadratic.result *ʷ bits c.sine.result)
     (centre_product (at_sine c).args.t first_row (pos 1)) (sizes first_row * unit)
 first_holds c =
@@ -141,8 +141,8 @@ quadratic-requires c = search rules
 pub sine-requires : goal.sine-requires
 sine-requires c = search rules
 
-pub overflow_mul-first : goal.overflow_mul-first.before
-overflow_mul-first c = mul_ok (first_amplitude c.before) (first_sine c) tt
+pub overflow_mul-first : goal.overflow_mul-first
+overflow_mul-first c = mul_ok (first_amplitude c.before.before) (first_sine c.before) tt
 
 pub linear-requires : goal.linear-requires
 linear-requires c = search rules

@@ -21,7 +21,7 @@ unfolding sun_longitude_at angle_at
 returns-then-instant_refused c = rw (instant_refused_lem (test c.before) c.if-instant_refused.true)
 
 pub sun_longitude_of-requires : goal.sun_longitude_of-requires
-sun_longitude_of-requires c = instant_in_range (test c.before) c.if-instant_refused.false
+sun_longitude_of-requires c = instant_in_range (test c.before.before) c.if-instant_refused.false
 
 pub returns : goal.returns
 unfolding sun_longitude_at angle_at

@@ -1,0 +1,20 @@
+-- `answers::lists::counted_out` meets its contract.
+use mathlib.Core.Path.{◌∙◌}
+use borrow.Author.Rules.{rules}
+use Rattle.rules.specs.Refusals.{given, refused}
+use Rattle.rules.specs.Answers.{listed_answer}
+use Rattle.words.specs.Fits.{held64}
+use Rattle.answers.specs.Answers.{counted_out}
+use Rattle.answers.proofs.lists.counted_out.Goals as goal
+
+pub number-requires : goal.number-requires
+number-requires c = search rules
+
+pub returns-in-Count : goal.returns-in-Count
+unfolding counted_out listed_answer given
+returns-in-Count c = rw c.in-Count.is
+
+pub returns-in-Refused : goal.returns-in-Refused
+unfolding counted_out listed_answer refused
+returns-in-Refused c =
+    rw (c.in-Refused.is, held64 c.number.result c.number.type_inv ∙ c.number.ensures)

@@ -1,0 +1,25 @@
+-- `answers::observed::altitude_out` meets its contract.
+use mathlib.Core.Path.{◌≡◌, ◌∙◌}
+use borrow.Author.Rules.{rules}
+use mir.Syntax.{w64}
+use mir.Val.{to_z, of_z}
+use Rattle.rules.specs.Refusals.{given, refused}
+use Rattle.rules.specs.Answers.{angle_answer}
+use Rattle.words.specs.Fits.{held64}
+use Rattle.answers.specs.Answers.{altitude_out}
+use Rattle.answers.proofs.observed.altitude_out.Goals as goal
+
+pub returns-in-Of : goal.returns-in-Of
+unfolding altitude_out angle_answer given
+returns-in-Of c =
+    let h = c.in-Of.h in
+    let held : to_z w64 (of_z w64 h) ≡ h = search rules in
+    rw (c.in-Of.is, held)
+
+pub returns-in-Refused : goal.returns-in-Refused
+unfolding altitude_out angle_answer refused
+returns-in-Refused c =
+    rw (c.in-Refused.is, held64 c.number.result c.number.type_inv ∙ c.number.ensures)
+
+pub number-requires : goal.number-requires
+number-requires c = search rules

@@ -1,0 +1,44 @@
+-- `line_reads::programs::put_names` meets its contract.
+use mathlib.Core.Path.{refl}
+use native.Mathlib.Omega.{arith}
+use lib.ListN.{length-set}
+use borrow.Author.Rules.{rules}
+use Rattle.rules.specs.Times.{ended}
+use Rattle.line_reads.proofs.programs.put_names.Goals as goal
+
+pub bounds-out-0 : goal.bounds-out-0
+bounds-out-0 c = search rules
+
+pub bounds-out-1 : goal.bounds-out-1
+bounds-out-1 c = simp length-set (omega arith)
+
+pub bounds-out-2 : goal.bounds-out-2
+bounds-out-2 c = simp length-set (omega arith)
+
+pub bounds-out-3 : goal.bounds-out-3
+bounds-out-3 c = simp length-set (omega arith)
+
+pub bounds-out-4 : goal.bounds-out-4
+bounds-out-4 c = simp length-set (omega arith)
+
+pub bounds-out-5 : goal.bounds-out-5
+bounds-out-5 c = simp length-set (omega arith)
+
+pub bounds-out-6 : goal.bounds-out-6
+bounds-out-6 c = simp length-set (omega arith)
+
+pub bounds-out-7 : goal.bounds-out-7
+bounds-out-7 c = simp length-set (omega arith)
+
+pub bounds-out-8 : goal.bounds-out-8
+bounds-out-8 c = simp length-set (omega arith)
+
+pub bounds-out-9 : goal.bounds-out-9
+bounds-out-9 c = simp length-set (omega arith)
+
+pub shape_of-out : goal.shape_of-out
+shape_of-out c = search rules
+
+pub returns : goal.returns
+unfolding ended
+returns c = record { value = refl; out_after = refl }

@@ -1,0 +1,28 @@
+-- `steps::aberrated` meets its contract: what is added is small beside an accepted direction.
+use mathlib.Core.Path.{ap, ◌∙◌}
+use native.Mathlib.Omega.{arith}
+use Rattle.rules.specs.Length.{to_length}
+use Rattle.rules.specs.Place.{aberrated}
+use Rattle.laws.specs.Directions.{accepted_parts}
+use Rattle.laws.specs.Aberration.{plus_fits, plus_root_ge}
+use Rattle.steps.proofs.aberrated.Goals as goal
+
+pub sum-requires : goal.sum-requires
+sum-requires c =
+    let v = accepted_parts c.args.v c.requires.direction in
+    let a = c.requires.night.aberration in record { parts_le = record { x = omega (arith, v.x); y = omega (arith, v.y); z = omega (arith, v.z) }; parts_le_2 = record { x = omega (arith, a.x); y = omega (arith, a.y); z = omega (arith, a.z) } }
+
+pub brought-requires : goal.brought-requires
+brought-requires c =
+    let start = c.before.before in
+    let v = start.args.v in
+    let a = start.args.n.aberration in
+    let small = start.requires.night.aberration in
+    rw c.sum.ensures (record {
+      fits = omega (arith, plus_fits v a start.requires.direction small);
+      length_pos = omega (arith, plus_root_ge v a start.requires.direction small);
+    })
+
+pub returns : goal.returns
+unfolding aberrated
+returns c = c.brought.ensures ∙ ap to_length c.sum.ensures
