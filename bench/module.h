@@ -1,5 +1,4 @@
-/* The proved crates `module` and `tests_lists` as `tools/native-object` gives them. On another machine than x86-64 an
- * answer of more than 16 bytes is written where the first argument points. */
+/* The archives libmodule.a and libtests_lists.a, as `tests/archives.sh` writes them. */
 #ifndef BENCH_MODULE_H
 #define BENCH_MODULE_H
 
@@ -7,19 +6,7 @@
 
 #include "sky.h"
 
-#ifdef __x86_64__
 #include "../include/turbelicus.h"
-#else
-struct turbelicus_placed {
-    int64_t refused, ra, declination, azimuth, altitude;
-    int32_t has_ra, has_azimuth;
-};
-
-struct turbelicus_placed *turbelicus_place(struct turbelicus_placed *placed, int32_t year, int32_t month, int32_t day,
-                                           int32_t hour, int32_t minute, int32_t second, int32_t ms,
-                                           int32_t ut1_minus_utc, int64_t latitude, int64_t longitude, int64_t ra,
-                                           int64_t declination, int32_t ra_motion, int32_t declination_motion);
-#endif
 
 /* An entry of a list: the star, its mark (0, 1 or 5), and its angles. */
 struct entry {
@@ -45,15 +32,8 @@ static inline struct tests_listed module_night(const struct moment *m, const str
 
 static inline struct turbelicus_placed module_place(const struct moment *m, const struct site *o,
                                                     const struct star *s) {
-#ifdef __x86_64__
     return turbelicus_place(m->year, m->month, m->day, m->hour, m->minute, m->second, m->ms, m->ut1_minus_utc,
                             o->latitude, o->longitude, s->ra, s->declination, s->ra_motion, s->declination_motion);
-#else
-    struct turbelicus_placed placed;
-    turbelicus_place(&placed, m->year, m->month, m->day, m->hour, m->minute, m->second, m->ms, m->ut1_minus_utc,
-                     o->latitude, o->longitude, s->ra, s->declination, s->ra_motion, s->declination_motion);
-    return placed;
-#endif
 }
 
 #endif

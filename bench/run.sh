@@ -16,10 +16,9 @@ need() {
 
 build() {
     mkdir -p $out
-    tools/native-object module $out/module.o
-    tools/native-object tests_lists $out/tests_lists.o
+    tests/archives.sh module tests_lists
     cc -std=gnu11 -O2 -Wall -Wextra -Wpedantic -Werror -o $out/bench bench/main.c bench/erfa_chain.c \
-        $out/module.o $out/tests_lists.o -lerfa -lm -Wl,-z,now
+        target/staticlib/libmodule.a target/staticlib/libtests_lists.a -lerfa -lm -Wl,-z,now
 }
 
 # instructions WORK FUNCTION: those of one place, counted while FUNCTION runs
@@ -77,9 +76,9 @@ write_page() {
     cat <<END
 # How fast it is
 
-\`make bench\` writes this page: the proved code, compiled for the machine at hand by \`tools/native-object\`, beside
-ERFA in double floats, in one run, on the same 4,096 places: 64 dates and sites, 64 stars, all drawn by lot. The answers
-of the two are at most $1″ apart (allowed: $tolerance″).
+\`make bench\` writes this page: the proved code, as \`tests/archives.sh\` writes it for C, beside ERFA in double floats,
+in one run, on the same 4,096 places: 64 dates and sites, 64 stars, all drawn by lot. The answers of the two are at most
+$1″ apart (allowed: $tolerance″). Kit: \`$(rt version)\`.
 
 - One place is \`turbelicus_place\`; a star of a night is a 64th of a night list of 64, whose instant is worked once.
 - ERFA's chain is \`bench/erfa_chain.c\`: \`eraCal2jd\`, \`eraDat\`, \`eraPrec76\`, the ten largest terms of nutation,

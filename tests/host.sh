@@ -1,15 +1,18 @@
 #!/bin/sh
-# Builds and runs C programs over the archives of `rt staticlib`, which hold x86-64 code, on x86-64 and on Arm: with the
-# kit's compiler, linker and C library, and on Arm its emulator. Nothing of the machine's own C is used.
+# Builds and runs C programs over the archives of `rt lib`, which hold x86-64 code, and runs the programs that rt built:
+# with the kit's compiler, linker and C library. Nothing of the machine's own C is used.
 #
 #   host.sh build OUT SOURCE.c [ARCHIVE.a ..]
 #   host.sh run PROGRAM [WORD ..]
 #   host.sh header HEADER.h
+#   host.sh kit
+#
+# TURBELICUS_KIT is the kit's folder, for scripts that run it often: `host.sh kit` prints it.
 set -eu
 
 here=$(cd "$(dirname "$0")" && pwd -P)
-kit=$(cd "$(dirname "$(rt doc)")/.." && pwd -P)
-tools=$kit/on/$(uname -m)/toolchain/bin
+kit=${TURBELICUS_KIT:-$(cd "$(dirname "$(rt doc)")" && pwd -P)}
+tools=$kit/toolchain/bin
 lib=$kit/toolchain/lib
 
 build() {
@@ -26,9 +29,7 @@ build() {
 }
 
 run() {
-    emulator=
-    [ "$(uname -m)" = x86_64 ] || emulator=$tools/qemu-x86_64
-    exec $emulator "$lib/ld-linux-x86-64.so.2" --library-path "$lib" "$@"
+    exec "$lib/ld-linux-x86-64.so.2" --library-path "$lib" "$@"
 }
 
 # The header by itself, as C11 and as C++; included twice.
@@ -41,6 +42,10 @@ header() {
     done
 }
 
+kit() {
+    printf '%s\n' "$kit"
+}
+
 usage() {
     sed -n 's/^#   /usage: /p' "$0" >&2
     exit 2
@@ -50,6 +55,7 @@ case ${1-} in
 build) [ $# -ge 3 ] || usage ;;
 run) [ $# -ge 2 ] || usage ;;
 header) [ $# -eq 2 ] || usage ;;
+kit) [ $# -eq 1 ] || usage ;;
 *) usage ;;
 esac
 "$@"

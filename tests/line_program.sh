@@ -3,7 +3,9 @@
 # prints before any answer, which may be nothing.
 
 top=$(cd "$here/../.." && pwd -P)
-program=$top/target/bin/$name
+program=$top/crates/$name/out/$name
+TURBELICUS_KIT=$("$top/tests/host.sh" kit)
+export TURBELICUS_KIT
 stored=$top/crates/$name
 work=$(mktemp -d)
 trap 'rm -rf "$work"' EXIT
@@ -80,11 +82,8 @@ failures() {
     run any <"$work/lines" >"$work/out"
     said "an argument" "usage: $name"
 
-    # the emulator opens files of its own, which may get the number of a closed descriptor
-    if [ "$(uname -m)" = x86_64 ]; then
-        run >"$work/out" <&-
-        said "a closed standard input" "$name: standard input: "
-        run <"$work/lines" >&-
-        said "a closed standard output" "$name: standard output: "
-    fi
+    run >"$work/out" <&-
+    said "a closed standard input" "$name: standard input: "
+    run <"$work/lines" >&-
+    said "a closed standard output" "$name: standard output: "
 }

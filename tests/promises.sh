@@ -2,7 +2,8 @@
 # Holds every name of docs/PROMISES.md and of docs/EDITS.md to the files: definitions, functions, theorems, edits and
 # tests; and every edit to docs/EDITS.md. Holds every public function, of every source file, to its theorem that no
 # second answer fits, or to its reason among the exceptions; every one that C calls to its theorem that it asks nothing;
-# and every one with a `requires` to the page.
+# and every one with a `requires` to the page. The theorems of a function that C calls are those of the library's, whose
+# parameters, answer and clauses are the export's own: tools/exports.py.
 set -uo pipefail
 cd "$(dirname "${BASH_SOURCE[0]}")/.." || exit 2
 
@@ -24,13 +25,17 @@ section() { # section HEADING: the section of the page whose heading begins so
 declare -A declarations functions
 while IFS=: read -r file text; do
     declarations[$file ${text##* }]=1
-done < <(grep -rEo '^ *(unfoldable |abbrev )?pub (record |enum |data )?[^ ]+' crates/*/specs --include='*.antt')
+done < <(grep -rEo '^ *(unfoldable |abbrev )*pub (record |enum |data )?[^ ]+' crates/*/{specs,proofs} --include='*.antt')
 while IFS=/ read -r _ crate text; do
     functions[$crate ${text##* }]=1
 done < <(grep -rEo 'fn [a-z0-9_]+' crates/*/src)
 
 declared() { # declared FILE NAME
     [ -n "${declarations[$1 $2]-}" ]
+}
+
+stated_in() { # stated_in CRATE FILE NAME: in specs/ or in proofs/, where a theorem stands that an edit of specs/ breaks
+    declared "crates/$1/specs/$2.antt" "$3" || declared "crates/$1/proofs/$2.antt" "$3"
 }
 
 function_of() { # function_of CRATE NAME: in any file of the crate
@@ -46,13 +51,12 @@ stands() { # stands NAME: 0 where the file has it, 1 where not, 2 where it is no
             crate=${name%%::*}
             function_of "$crate" "${name##*::}" ;;
         *:*)
-            [ -e "crates/${name%%:*}/must-fail/${name#*:}.edit" ] \
-                || [ -e "crates/${name%%:*}/must-fail/further/${name#*:}.edit" ] ;;
+            [ -e "crates/${name%%:*}/must-fail/${name#*:}.edit" ] ;;
         */*.*)
             crate=${name%%/*} rest=${name#*/}
-            declared "crates/$crate/specs/${rest%%.*}.antt" "${rest#*.}" ;;
+            stated_in "$crate" "${rest%%.*}" "${rest#*.}" ;;
         [A-Z]*.*)
-            declared "crates/rules/specs/${name%%.*}.antt" "${name#*.}" ;;
+            stated_in rules "${name%%.*}" "${name#*.}" ;;
         *) return 2 ;;
     esac
 }
@@ -71,7 +75,7 @@ done < <({
 
 # and the other way round: every edit stands on its page
 listed=$(grep -o '^| `[^`]*` |' $edits)
-for edit in crates/*/must-fail/*.edit crates/*/must-fail/further/*.edit; do
+for edit in crates/*/must-fail/*.edit; do
     crate=${edit#crates/} label=${edit##*/}
     name=${crate%%/*}:${label%.edit}
     [[ $listed == *"| \`$name\` |"* ]] || fail "not on the page: $name"
@@ -86,7 +90,7 @@ promises() {
         label == "Edits:" { tried = tried $0 }'
 }
 
-# every sentence has its five labels, and two edits or more that rt ci tries itself
+# every sentence has its five labels, and two edits or more
 sentences=0
 while IFS=$'\t' read -r heading labels names; do
     sentences=$((sentences + 1)) tried=0
@@ -118,8 +122,8 @@ excepted() { # excepted CRATE::PATH
 one_answer() { # one_answer CRATE MODULE NAME
     local theorems
     theorems=crates/promises/specs/OnlyOne/$(sed -E 's/(^|_)([a-z])/\U\2/g' <<<"$1").antt
-    grep -qs "^use Rattle·$1\.proofs\.${2:+${2//::/.}.}$3 as ${3//_/-}\$" "$theorems" \
-        && declared "$theorems" "${3//_/-}-one"
+    grep -qs "^use Rattle\.$1\.specs\.contracts\.${2:+${2//::/.}.}$3 as $3\$" "$theorems" \
+        && declared "$theorems" "${3}_one"
 }
 
 # A module that its crate keeps to itself: what is public there is called inside the crate alone, by functions whose
@@ -139,13 +143,22 @@ stated() { # stated FILE NAME
 asks_nothing() { # asks_nothing CRATE MODULE NAME
     local theorems
     for theorems in crates/promises/specs/Demand1/Asks*.antt crates/promises/specs/{,Demand1/}Program*.antt; do
-        grep -qs "^use Rattle·$1\.proofs\.${2:+${2//::/.}.}$3 as ${3//_/-}\$" "$theorems" \
-            && declared "$theorems" "${3//_/-}-asks-nothing" && return 0
+        grep -qs "^use Rattle\.$1\.specs\.contracts\.${2:+${2//::/.}.}$3 as " "$theorems" \
+            && declared "$theorems" "${3}_asks_nothing" && return 0
     done
     return 1
 }
 
-# Every source file of every crate, programs too: a function that is public is looked at wherever it stands.
+# the functions that C calls: the exports of each archive NAME, from its crate NAME_c
+declare -A exported
+while read -r archive; do
+    while read -r _ name; do
+        exported[$archive $name]=1
+    done < <(for source in crates/"$archive"_c/src/*.rt; do public "$source"; done)
+done < <(sed -n 's/^\([a-z0-9_]*\):.*/\1/p' tests/exports)
+
+# Every source file of every crate, programs too: a function that is public is looked at wherever it stands, but that of
+# an archive at that of its library.
 files=0 alone=0 inside=0 exceptions=0 called=0
 inner=$(section 'Inner public functions')
 while read -r source; do
@@ -168,15 +181,18 @@ while read -r source; do
         else
             fail "no theorem that no second answer fits: $whole"
         fi
-        [ -n "$kind" ] || continue
-        called=$((called + 1))
+        [ -n "$kind${exported[$crate $name]-}" ] || continue
+        called=$((called + 1)) exported[$crate $name]=
         asks_nothing "$crate" "$module" "$name" || fail "no theorem that it asks nothing: $whole"
     done < <(public "$source")
     while read -r name; do
         name=$crate::${module:+$module::}$name
         grep -q "\`$name\`" <<<"$inner" || fail "asks something, and is not on the page: $name"
     done < <(asking "$source")
-done < <(find crates -path 'crates/*/src/*' -name '*.rt' | sort)
+done < <(find crates/*/src -name '*.rt' -not -path 'crates/*_c/*' | sort)
+for name in "${!exported[@]}"; do
+    [ -z "${exported[$name]}" ] || fail "for C, and in no library: $name"
+done
 
 # an exception that no longer is one
 while read -r name; do

@@ -14,8 +14,9 @@ ROOT = pathlib.Path(__file__).resolve().parent.parent
 CRATES = ROOT / "crates"
 
 PUBLIC = re.compile(r'^ *pub (extern "C" )?fn (\w+)', re.M)
-CALL = re.compile(r"\b([a-z_]\w*(?:::\w+)*)\s*\(")
-USE = re.compile(r"^(?:pub )?use ([\w:]+);", re.M)
+# as rt fmt lays a call out; what a clause applies to something has a blank before it
+CALL = re.compile(r"\b([a-z_]\w*(?:::\w+)*)\(")
+USE = re.compile(r"^(?:pub )?use ([\w:]+?)(?:::\{([^}]*)\})?;", re.M)
 
 
 def module_of(source: pathlib.Path) -> str:
@@ -33,10 +34,16 @@ def path(*parts: str) -> str:
     return "::".join(part for part in parts if part)
 
 
+def uses(code: str) -> list[str]:
+    """What a file's `use` lines name, each by its path: `use a::{b, c};` names a::b and a::c."""
+    found = [path(head, name) for head, names in USE.findall(code) for name in re.findall(r"[\w:]+", names) or [""]]
+    return [used.removesuffix("::self") for used in found]
+
+
 def calls(crate: str, module: str, text: str) -> set[str]:
     """The functions that a file calls, by their full paths as far as its `use` lines tell them."""
-    code = re.sub(r"//.*|^ghost .*$", "", text, flags=re.M)
-    names = {used.split("::")[-1]: re.sub(r"^crate\b", crate, used) for used in USE.findall(code)}
+    code = re.sub(r"//.*|^ghost use [^;]*;|^ghost .*$", "", text, flags=re.M)
+    names = {used.split("::")[-1]: re.sub(r"^crate\b", crate, used) for used in uses(code)}
     found = set()
     for call in CALL.findall(code):
         head, *rest = call.split("::")

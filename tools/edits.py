@@ -13,17 +13,18 @@ TREE = pathlib.Path(__file__).resolve().parent.parent
 HEAD = """# The must-fail edits, and the fact that each breaks
 
 `tools/edits.py` writes this page from `crates/NAME/must-fail/`. An edit `crate:label` makes a source or a statement of
-its crate wrong, and the crate with it must be refused. `docs/PROMISES.md` names those of each sentence.
+its crate wrong, and the crate with it must be refused: `rt ci` tries each. `docs/PROMISES.md` names those of each
+sentence.
 """
 COLUMNS = "| Edit | Refused because |\n|-|-|\n"
 
 
-def table(folder: str) -> str:
-    """The edits in that folder of each crate, in the order of crates.txt."""
-    crates = re.findall(r"^(\w+):", (TREE / "crates.txt").read_text(), re.M)
+def table() -> str:
+    """The edits of each crate, in the order of crates.txt."""
+    crates = re.findall(r"^(\w+)[^:#\n]*:", (TREE / "crates.txt").read_text(), re.M)
     rows = []
     for crate in crates:
-        for edit in sorted((TREE / "crates" / crate / folder).glob("*.edit")):
+        for edit in sorted((TREE / "crates" / crate / "must-fail").glob("*.edit")):
             fact = edit.read_text().splitlines()[0].removeprefix("# ").replace("|", r"\|")
             rows.append(f"| `{crate}:{edit.stem}` | {fact} |\n")
     return COLUMNS + "".join(rows)
@@ -33,10 +34,7 @@ def main() -> None:
     root = pathlib.Path(sys.argv[1]) if len(sys.argv) > 1 else TREE
     page = root / "docs/EDITS.md"
     page.parent.mkdir(parents=True, exist_ok=True)
-    page.write_text(
-        HEAD + "\n`rt ci` tries these:\n\n" + table("must-fail")
-        + "\nand the gate, right after it, those of `crates/NAME/must-fail/further/`:\n\n" + table("must-fail/further")
-    )
+    page.write_text(f"{HEAD}\n{table()}")
 
 
 if __name__ == "__main__":

@@ -3,10 +3,12 @@
 
     tools/exports.py
 
-The exports are the `#[no_mangle] pub extern "C" fn` of the crates that tests/exports lists, and the `#[repr(C)]`
-structs that they answer or lend. include/turbelicus.h, tests/c/tests_exports.h, tests/c/driver.c and tests/bridge/src/face.rs
-must say the same of each: names, number, order and types of the parameters, the answer, the fields of every struct. It
-exits 1 where one does not.
+The exports are the `#[unsafe(no_mangle)] pub extern "C" fn` of the crates NAME_c, for each archive NAME of
+tests/exports, and the `#[repr(C)]` structs that they answer or lend. include/turbelicus.h, tests/c/tests_exports.h,
+tests/c/driver.c and tests/bridge/src/face.rs must say the same of each: names, number, order and types of the
+parameters, the answer, the fields of every struct. And each export must be what its name is in the library NAME: the
+same parameters, answer and clauses, and a body that is the call of it, so that what is promised of the library's
+function is promised to C. It exits 1 where one does not.
 
 The driver and the face pass 64-bit words: a float is the word of its 32 bits, and two fields of 32 bits are one word. That
 word is named by both: by the last word of their names where it is the same (ra_motion and declination_motion are motions),
@@ -21,8 +23,11 @@ ROOT = pathlib.Path(__file__).resolve().parent.parent
 PUBLIC, TESTS = "include/turbelicus.h", "tests/c/tests_exports.h"
 DRIVER, FACE = "tests/c/driver.c", "tests/bridge/src/face.rs"
 
-FUNCTION = re.compile(r'^#\[no_mangle\]\npub extern "C" fn (\w+)\((.*?)\) -> (\w+)$', re.M | re.S)
-STRUCT = re.compile(r"^#\[repr\(C\)\]\npub struct (\w+) \{\n(.*?)^\}", re.M | re.S)
+# a function that is exported, and one of a library: its name, parameters, answer, clauses and body
+WHOLE = r'fn (\w+)\((.*?)\) -> (\w+)\n(.*?)^\{\n(.*?)^\}$'
+EXPORT = re.compile(rf'^#\[unsafe\(no_mangle\)\]\npub extern "C" {WHOLE}', re.M | re.S)
+OF_LIBRARY = re.compile(rf'^pub (?:extern "C" )?{WHOLE}', re.M | re.S)
+STRUCT = re.compile(r"^#\[repr\(C\)\]\n(?:#\[derive\([^\n]*\)\]\n)*pub struct (\w+) \{\n(.*?)^\}", re.M | re.S)
 SLICE = re.compile(r"&(mut )?\[(\w+)\]$")
 # a row of the face's functions of numbers, and a function that is lent something
 NUMBERS = re.compile(r"= (\w+)\(([^)]*)\) -> \(([^)]*)\);")
@@ -43,6 +48,8 @@ class Export(NamedTuple):
     parameters: Fields
     answer: str
     subjects: list[str]
+    whole: str  # parameters, answer and clauses, as they stand
+    body: str
 
 
 def read(path: str) -> str:
@@ -58,17 +65,49 @@ def one_line(text: str) -> str:
 # ---- what the sources export
 
 
+def archives() -> list[tuple[str, str]]:
+    """The archives, each with its subjects."""
+    return re.findall(r"^(\w+): (.*)$", read("tests/exports"), re.M)
+
+
+def sources(crate: str) -> list[pathlib.Path]:
+    return sorted((ROOT / "crates" / crate / "src").rglob("*.rt"))
+
+
 def exports() -> dict[str, Export]:
     found = {}
-    for crate, subjects in re.findall(r"^(\w+): (.*)$", read("tests/exports"), re.M):
-        for source in sorted((ROOT / "crates" / crate / "src").rglob("*.rt")):
+    for archive, subjects in archives():
+        for source in sources(f"{archive}_c"):
             text = source.read_text()
-            functions = FUNCTION.findall(text)
-            if len(functions) != text.count('extern "C" fn'):
+            functions = EXPORT.findall(text)
+            if len(functions) != text.count('extern "C" fn') or len(functions) != text.count("no_mangle"):
                 sys.exit(f"{source.relative_to(ROOT)}: an export of another form")
-            for name, parameters, answer in functions:
-                found[name] = Export(re.findall(r"(\w+): ([^,]+)", parameters), answer, subjects.split())
+            for name, parameters, answer, clauses, body in functions:
+                whole = one_line(f"({parameters}) -> {answer} {clauses}")
+                found[name] = Export(
+                    re.findall(r"(\w+): ([^,]+)", parameters), answer, subjects.split(), whole, one_line(body)
+                )
     return found
+
+
+def faults_of_bodies(found: dict[str, Export]) -> list[str]:
+    """Where an export is not the function of its name in the library of its archive, by clauses and body."""
+    beside = {}
+    for archive, _ in archives():
+        for source in sources(archive):
+            path = "::".join([archive, *source.relative_to(ROOT / "crates" / archive / "src").with_suffix("").parts])
+            for name, parameters, answer, clauses, _ in OF_LIBRARY.findall(source.read_text()):
+                beside[name] = path.removesuffix("::lib"), one_line(f"({parameters}) -> {answer} {clauses}")
+    faults = [f"{name}: an export that no library has" for name in found.keys() - beside.keys()]
+    for name in found.keys() & beside.keys():
+        path, whole = beside[name]
+        if found[name].whole != whole:
+            faults.append(f"{name}\n    library: {whole}\n    export:  {found[name].whole}")
+        given = ", ".join(parameter for parameter, _ in found[name].parameters)
+        last = path.rpartition("::")[2]
+        if found[name].body not in [f"{before}{name}({given})" for before in (f"{path}::", f"{last}::")]:
+            faults.append(f"{name}: its body is not the call of {path}::{name}({given}): {found[name].body}")
+    return sorted(faults)
 
 
 def structs() -> dict[str, Fields]:
@@ -252,7 +291,7 @@ def main() -> None:
     face = {
         name: [f"{subject}: {face_of(export, known)}" for subject in export.subjects] for name, export in found.items()
     }
-    faults = faults_of_headers(found, known, needed)
+    faults = faults_of_bodies(found) + faults_of_headers(found, known, needed)
     faults += compare(DRIVER, rows, driver_rows()) + compare(FACE, face, faces(found, known))
     print("\n".join([*faults, f"{len(found)} exported functions, {len(needed)} structs; {len(faults)} faults"]))
     sys.exit(1 if faults or len(found) < 20 or len(needed) < 15 else 0)

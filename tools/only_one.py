@@ -29,7 +29,7 @@ LEMMAS = {"one": 1, "one_and": 3, "one_and_content": 4, "one_each": 4, "one_cont
 
 def crates():
     for line in (TREE / "crates.txt").read_text().splitlines():
-        match = re.match(r"(\w+):", line)
+        match = re.match(r"(\w+):", line)  # a static library has none of its own
         if match and match[1] not in FROM_OUTSIDE and (TREE / "crates" / match[1] / "src/lib.rt").exists():
             yield match[1]
 

@@ -1,5 +1,5 @@
 #!/bin/sh
-# Runs the program `dates` that `rt check` built, over crates/dates/stdin, and compares what it prints, byte for byte.
+# Runs the program `dates` that `rt ci` built, over crates/dates/stdin, and compares what it prints, byte for byte.
 # crates/dates/stdout was worked out apart from the program, from documents 01 and 02 and another calendar: both sides
 # of each added second, the ends of the stretch and their neighbours, numbers of every length, lines of another form.
 # Then: empty input, a line longer than any buffer, 100,000 lines; an input cut in odd ways; what cannot be read or

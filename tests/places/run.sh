@@ -1,5 +1,5 @@
 #!/usr/bin/env bash
-# run.sh: holds the program `places` that `rt check` built, and the second program, to the stored transcript, byte for
+# run.sh: holds the program `places` that `rt ci` built, and the second program, to the stored transcript, byte for
 # byte; and the program alone to its messages where something outside fails.
 # `expected` was written by the second program: run.sh --write writes it anew. `failures.expected` was written by hand:
 # a line on standard error for each failure.
@@ -27,10 +27,12 @@ if [ "${1-}" = --write ]; then
     second >"$here/expected"
     exit
 fi
-program=("$top/tests/host.sh" run "$top/target/bin/places")
+program=("$top/tests/host.sh" run "$top/crates/places/out/places")
+TURBELICUS_KIT=$("$top/tests/host.sh" kit)
+export TURBELICUS_KIT
 same 'the program' expected "$here/transcript.sh" "${program[@]}"
 same 'the program, where something fails' failures.expected "$here/failures.sh" "${program[@]}"
 same 'the second program' expected second
-# the run that `rt check` makes is the first case
+# the run that `rt ci` makes is the first case
 "$top/tests/target/release/examples/places" "$top/examples/bright.slt" <"$top/crates/places/stdin" | cmp - "$top/crates/places/stdout"
 cmp "$top/examples/bright.slt" "$top/crates/places/data/bright.slt"

@@ -1,5 +1,5 @@
 #!/bin/sh
-# Runs the program `times` that `rt check` built, over document 01's sample and over long.in, and compares what it
+# Runs the program `times` that `rt ci` built, over document 01's sample and over long.in, and compares what it
 # prints, byte for byte. long.out was worked out apart from the program, from document 01 and another calendar.
 # Then: empty input, a line longer than any buffer, 100,000 lines; an input cut in odd ways; what cannot be read or
 # written.

@@ -1,3 +1,5 @@
+#![tactic(auto)]
+
 // The pairs and the sum of which a night is made.
 
 ghost use Rattle.std.specs.Prelude.{◌≡◌, ◌≤◌, ◌^◌, ℤ, pos, neg_ℤ, nat_abs, ◌-ℤ◌, ◌*ℤ◌};

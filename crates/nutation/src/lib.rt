@@ -1,3 +1,5 @@
+#![tactic(auto)]
+
 // Nutation by its ten largest terms, of TT.
 
 ghost use Rattle.std.specs.Prelude.{◌≡◌};

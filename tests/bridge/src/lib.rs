@@ -1,8 +1,7 @@
 //! The bridge between the Rust tests and the proved module: `tests/` compares the two programs over it.
 //!
-//! On x86-64 the archives of `rt staticlib` are linked and called directly. They hold x86-64 code, so on another processor
-//! the calls go in batches to a C program under the kit's emulator, `tests/c/driver.c`. `TURBELICUS_FACE=driver` takes
-//! that way on x86-64 too. `TURBELICUS_SEED` gives the random calls another seed.
+//! The archives that `tests/archives.sh` writes are linked and called directly. `TURBELICUS_FACE=driver` takes another way:
+//! the calls go in batches to a C program, `tests/c/driver.c`. `TURBELICUS_SEED` gives the random calls another seed.
 //!
 //! `tests/README.md` says how an exported function is added.
 
