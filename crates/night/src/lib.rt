@@ -1,3 +1,5 @@
+#![tactic(auto)]
+
 // All of a place that date and site alone decide.
 
 ghost use Rattle.std.specs.Prelude.{◌≡◌};

@@ -27,7 +27,7 @@ use Rattle.rules.specs.Refraction.{observed_altitude}
 use Rattle.rules.specs.ListReading.{list_count, list_star, list_read, entries_after_read}
 use Rattle.rules.specs.ListWriting.{list_written, room_after_write, numbers_written, room_after_numbers}
 use Rattle.rules.specs.NightList.{night_list, entries_after_night}
-use Rattle.promises.specs.Contracts.{Tells}
+use Rattle.promises.specs.OfContracts.{Tells}
 use Rattle.calendar.specs.contracts.day_of as day_of_lem
 use Rattle.calendar.specs.contracts.date_of as date_of_lem
 use Rattle.instants.specs.contracts.instants as instants

@@ -21,7 +21,7 @@ use Rattle.stars.specs.Numbers.{star_of}
 use Rattle.answers.specs.Given.{tt_of, moment_of, site_of, direction_of, weather_of, taken_by_kind}
 use Rattle.answers.specs.Answers.{clocked_out, weathered_out, altitude_out, observed_out}
 use Rattle.answers.specs.Answers.{placed_out, turned_out, read_out, counted_out, starred_out, written_out}
-use Rattle.promises.specs.Contracts.{Tells}
+use Rattle.promises.specs.OfContracts.{Tells}
 use Rattle.module.specs.contracts.clocks.turbelicus_utc as turbelicus_utc
 use Rattle.module.specs.contracts.places.turbelicus_place as turbelicus_place
 use Rattle.module.specs.contracts.turns.turbelicus_turn as turbelicus_turn

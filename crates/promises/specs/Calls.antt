@@ -6,7 +6,7 @@ use contract.Monad.{conj, fact, fact_i}
 use contract.Lifetimes.{Lfts}
 use denote.Triple.Entry.{Args, Res}
 use denote.Triple.Clauses.{Ended, AtExit, Clauses}
-use Rattle.promises.specs.Contracts.{Tells, together}
+use Rattle.promises.specs.OfContracts.{Tells, together}
 
 -- P holds of each of a list
 abbrev pub Each : {A : Type 0} → (A → Type 0) → List A → Type 0

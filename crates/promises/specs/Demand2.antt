@@ -2,7 +2,7 @@
 -- series; and what 01 promises of a reading and of the ranges of a place. `Demand2OfFunctions` has it of the functions.
 -- That every rule is followed to the last unit is each function's own contract, an equality with the rule: `ByContract`
 -- and `ByContractForC`.
-use Rattle.std.specs.Prelude.{◌≡◌, List, suc, ◌+◌, ◌-◌, ◌*◌, ◌≤◌, ◌<◌, ◌^◌, length, ℤ, pos, negsuc, nat_abs, ◌+ℤ◌, ◌-ℤ◌, ◌*ℤ◌, ◌<ℤ◌, ◌≤ℤ◌}
+use Rattle.std.specs.Prelude.{◌≡◌, List, suc, ◌+◌, ◌-◌, ◌*◌, ◌≤◌, ◌^◌, length, ℤ, pos, negsuc, nat_abs, ◌+ℤ◌, ◌-ℤ◌, ◌*ℤ◌, ◌<ℤ◌, ◌≤ℤ◌}
 use Rattle.std.proofs.Common.{arith, lit≤, le→leb}
 use Rattle.std.specs.Int.Signed.{le_z_yes, lt_z_yes}
 use Rattle.rules.specs.declared.Ut.{Ut}

@@ -26,7 +26,7 @@ use Rattle.rules.specs.Sidereal.{sidereal_polynomial, sidereal, sidereal_at, sid
 use Rattle.rules.specs.Nutation.{terms, term_angle, longitude_amplitude, obliquity_amplitude, total}
 use Rattle.rules.specs.Nutation.{longitude_product, obliquity_product, nutation_by, nutation, nutation_at}
 use Rattle.laws.specs.Instant.{InRange, in_range_lem}
-use Rattle.promises.specs.Demand2.{Within2, PolynomialsWithin2, each_polynomial_within_2}
+use Rattle.promises.specs.Demand2.{Within2, polynomial_within_2}
 
 -- what is answered at an instant is the rule's, and the instant is in range
 answered : {A B : Type 0} (given : B → A) (refused : A) (t : ℤ) (b c : B) → (refused ≡ given c → ⊥)
@@ -43,13 +43,6 @@ unfolding angle_at
 answered_angle t a b e = answered Angle.Of (Angle.Refused Refusal.Instant) t a b
     (λ e. let z : ◌≡◌ {A = ℕ} 0 1 = cc in omega arith) (λ e. cc) e
 
--- of UT and of TT alone
-of_tt : (t : Tt) → InRange t.0 → PolynomialsWithin2 t (record { 0 = pos 0 })
-of_tt t h = each_polynomial_within_2 t (record { 0 = pos 0 }) h (lit≤ tt)
-
-of_ut : (u : Ut) → InRange u.0 → PolynomialsWithin2 (record { 0 = pos 0 }) u
-of_ut u h = each_polynomial_within_2 (record { 0 = pos 0 }) u (lit≤ tt) h
-
 -- ---- precession and the mean obliquity
 
 pub record PrecessionWithin2 (t : Tt) (p : Precession) : Type 0 where
@@ -57,19 +50,29 @@ pub record PrecessionWithin2 (t : Tt) (p : Precession) : Type 0 where
   pub z : Within2 p.z z_row t.0
   pub theta : Within2 p.theta theta_row t.0
 
-pub precession_within_2 : (t : Tt) (p : Precession) → precession_at t ≡ Precessed.By p → PrecessionWithin2 t p
-unfolding precession_at
-precession_within_2 t p e =
+-- as three facts, from which the record is made
+pub precession_polynomials : (t : Tt) (p : Precession) → precession_at t ≡ Precessed.By p
+    → Within2 p.zeta zeta_row t.0 × Within2 p.z z_row t.0 × Within2 p.theta theta_row t.0
+unfolding precession_at precession
+precession_polynomials t p e =
     let a = answered Precessed.By (Precessed.Refused Refusal.Instant) t.0 (precession t) p
     (λ e. let z : ◌≡◌ {A = ℕ} 0 1 = cc in omega arith) (λ e. cc) e in
-    let n = of_tt t a.1 in
-    subst (PrecessionWithin2 t) a.0 (record { zeta = n.zeta; z = n.z; theta = n.theta })
+    subst (λ p. Within2 p.zeta zeta_row t.0 × Within2 p.z z_row t.0 × Within2 p.theta theta_row t.0) a.0 (
+      polynomial_within_2 zeta_row t.0 (lit≤ tt) a.1,
+      polynomial_within_2 z_row t.0 (lit≤ tt) a.1,
+      polynomial_within_2 theta_row t.0 (lit≤ tt) a.1,
+    )
+
+pub precession_within_2 : (t : Tt) (p : Precession) → precession_at t ≡ Precessed.By p → PrecessionWithin2 t p
+precession_within_2 t p e =
+    let n = precession_polynomials t p e in
+    record { zeta = n.0; z = n.1; theta = n.2 }
 
 pub obliquity_within_2 : (t : Tt) (a : ℤ) → obliquity_at t ≡ Angle.Of a → Within2 a obliquity_row t.0
-unfolding obliquity_at
+unfolding obliquity_at obliquity
 obliquity_within_2 t a e =
     let b = answered_angle t.0 (obliquity t) a e in
-    subst (λ a. Within2 a obliquity_row t.0) b.0 (of_tt t b.1).obliquity
+    subst (λ a. Within2 a obliquity_row t.0) b.0 (polynomial_within_2 obliquity_row t.0 (lit≤ tt) b.1)
 
 -- ---- the five arguments of nutation
 
@@ -81,9 +84,14 @@ pub record ArgumentsWithin2 (t : Tt) (a : Arguments) : Type 0 where
   pub node : Within2 a.node node_row t.0
 
 rule_arguments : (t : Tt) → InRange t.0 → ArgumentsWithin2 t (arguments t)
-rule_arguments t h =
-    let n = of_tt t h in
-    record { moon = n.moon; sun = n.sun; latitude = n.latitude; elongation = n.elongation; node = n.node }
+unfolding arguments
+rule_arguments t h = record {
+  moon = polynomial_within_2 moon_row t.0 (lit≤ tt) h;
+  sun = polynomial_within_2 sun_row t.0 (lit≤ tt) h;
+  latitude = polynomial_within_2 latitude_row t.0 (lit≤ tt) h;
+  elongation = polynomial_within_2 elongation_row t.0 (lit≤ tt) h;
+  node = polynomial_within_2 node_row t.0 (lit≤ tt) h;
+}
 
 pub arguments_within_2 : (t : Tt) (a : Arguments) → arguments_at t ≡ FiveArguments.By a → ArgumentsWithin2 t a
 unfolding arguments_at
@@ -110,31 +118,31 @@ pub record SunWithin2 (t : Tt) (a : ℤ) : Type 0 where
       +ℤ third *ℤ (pair (pos 3 *ℤ sun)).sine) unit
 
 pub sun_within_2 : (t : Tt) (a : ℤ) → sun_longitude_at t ≡ Angle.Of a → SunWithin2 t a
-unfolding sun_longitude_at sun_longitude centre centre_sum centre_product
+unfolding sun_longitude_at sun_longitude mean_longitude centre centre_sum centre_product
 sun_within_2 t a e =
     let b = answered_angle t.0 (sun_longitude t) a e in
-    let n = of_tt t b.1 in
+    let sun_near = (rule_arguments t b.1).sun in
     record {
       mean_longitude_lem = mean_longitude t;
       first = polynomial first_row t.0;
       second = polynomial second_row t.0;
       third = polynomial third_row t.0;
       sun = (arguments t).sun;
-      mean_longitude_near = n.mean_longitude_lem;
-      first_near = n.first;
-      second_near = n.second;
-      third_near = n.third;
-      sun_near = n.sun;
+      mean_longitude_near = polynomial_within_2 mean_longitude_row t.0 (lit≤ tt) b.1;
+      first_near = polynomial_within_2 first_row t.0 (lit≤ tt) b.1;
+      second_near = polynomial_within_2 second_row t.0 (lit≤ tt) b.1;
+      third_near = polynomial_within_2 third_row t.0 (lit≤ tt) b.1;
+      sun_near = sun_near;
       made = sym b.0;
     }
 
 -- ---- the longitude of perihelion
 
 pub perihelion_within_2 : (t : Tt) (a : ℤ) → perihelion_at t ≡ Angle.Of a → Within2 a perihelion_row t.0
-unfolding perihelion_at
+unfolding perihelion_at perihelion
 perihelion_within_2 t a e =
     let b = answered_angle t.0 (perihelion t) a e in
-    subst (λ a. Within2 a perihelion_row t.0) b.0 (of_tt t b.1).perihelion
+    subst (λ a. Within2 a perihelion_row t.0) b.0 (polynomial_within_2 perihelion_row t.0 (lit≤ tt) b.1)
 
 -- ---- the sidereal angle
 
@@ -145,10 +153,10 @@ pub record SiderealWithin2 (t : Ut) (a : ℤ) : Type 0 where
   pub made : a ≡ pos (modulo (alone +ℤ pos 15000 *ℤ pos (modulo t.0 day)) circle)
 
 pub sidereal_within_2 : (t : Ut) (a : ℤ) → sidereal_at t ≡ Angle.Of a → SiderealWithin2 t a
-unfolding sidereal_at sidereal
+unfolding sidereal_at sidereal sidereal_polynomial
 sidereal_within_2 t a e =
     let b = answered_angle t.0 (sidereal t) a e in
-    record { alone = sidereal_polynomial t; alone_near = (of_ut t b.1).sidereal; made = sym b.0 }
+    record { alone = sidereal_polynomial t; alone_near = polynomial_within_2 sidereal_row t.0 (lit≤ tt) b.1; made = sym b.0 }
 
 -- ---- nutation
 
@@ -170,14 +178,13 @@ unfolding nutation_at nutation nutation_by longitude_product obliquity_product
 nutation_within_2 t n e =
     let a = answered Nutated.By (Nutated.Refused Refusal.Instant) t.0 (nutation t) n
     (λ e. let z : ◌≡◌ {A = ℕ} 0 1 = cc in omega arith) (λ e. cc) e in
-    let near = of_tt t a.1 in
     record {
       arguments = arguments t;
       longitude = λ m. polynomial (longitude_amplitude m) t.0;
       obliquity = λ m. polynomial (obliquity_amplitude m) t.0;
       arguments_near = rule_arguments t a.1;
-      longitude_near = near.longitude_amplitude_lem;
-      obliquity_near = near.obliquity_amplitude_lem;
+      longitude_near = λ m. polynomial_within_2 (longitude_amplitude m) t.0 (lit≤ tt) a.1;
+      obliquity_near = λ m. polynomial_within_2 (obliquity_amplitude m) t.0 (lit≤ tt) a.1;
       longitude_made = ap (λ n. n.longitude) (sym a.0);
       obliquity_made = ap (λ n. n.obliquity) (sym a.0);
     }

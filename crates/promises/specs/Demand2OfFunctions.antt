@@ -4,7 +4,7 @@
 use Rattle.std.specs.Prelude.{◌≡◌, refl, ◌*◌, ◌≤◌, ℤ, pos, nat_abs, ◌-ℤ◌, ◌*ℤ◌}
 use Rattle.std.proofs.Common.{sym, ap, subst, ◌∙◌, arith}
 use seplogic.Ra.Ura.{Ura}
-use base.Logic.{SProp}
+use base.Logic.{SProp, id⊢}
 use prog.Memory.{Memory}
 use prog.Routine.{Routine}
 use types.Logic.{Logic}
@@ -36,9 +36,7 @@ use Rattle.laws.specs.RefusalNumbers.{number_pos}
 use Rattle.answers.specs.Answers.{placed_out, read_out}
 use Rattle.laws.specs.PlaceAnswers.{read_of, read_again}
 use Rattle.answers.specs.declared.places.TurbelicusPlaced.{TurbelicusPlaced}
-use Rattle.promises.specs.Contracts.{Tells, so_told}
-use Rattle.promises.specs.ByContract as answers
-use Rattle.promises.specs.ByContractForC as answers_for_c
+use Rattle.promises.specs.OfContracts.{Tells, so_told}
 use Rattle.promises.specs.Demand2.{Within2, cosine_within_4, sine_within_4, PlaceInRange}
 use Rattle.promises.specs.Demand2 as demand2
 use Rattle.promises.specs.Demand2Answers as within
@@ -97,69 +95,71 @@ module _ {M : Type 1} {𝓤 : Ura M} (𝓛 : Logic 𝓤) (mem : Memory → SProp
   -- ---- sine and cosine
 
   pub pair_within_4 : Tells 𝓤 pair.ended (pair.clauses 𝓛 mem run) (λ κs passed a x. PairWithin4 passed.0 a)
-  pair_within_4 κs passed g a x = so_told 𝓤 (answers.pair_answers 𝓛 mem run κs passed g a x)
+  pair_within_4 κs passed g a x = so_told 𝓤 (id⊢ 𝓤 _)
       (λ e. rw e (record { cosine = cosine_within_4 passed.0; sine = sine_within_4 passed.0 }))
 
   -- ---- angles at an instant
 
   pub precession_within_2 : Tells 𝓤 precession.ended (precession.clauses 𝓛 mem run)
       (λ κs passed a x. (p : Precession) → a ≡ Precessed.By p → within.PrecessionWithin2 passed.0 p)
-  precession_within_2 κs passed g a x = so_told 𝓤 (answers.precession_answers 𝓛 mem run κs passed g a x)
-      (λ e p by. within.precession_within_2 passed.0 p (sym e ∙ by))
+  precession_within_2 κs passed g a x = so_told 𝓤 (id⊢ 𝓤 _)
+      (λ e p by.
+      let n = within.precession_polynomials passed.0 p (sym e ∙ by) in
+      record { zeta = n.0; z = n.1; theta = n.2 })
 
   pub obliquity_within_2 : Tells 𝓤 obliquity.ended (obliquity.clauses 𝓛 mem run)
       (λ κs passed a x. (b : ℤ) → a ≡ Angle.Of b → Within2 b obliquity_row passed.0.0)
-  obliquity_within_2 κs passed g a x = so_told 𝓤 (answers.obliquity_answers 𝓛 mem run κs passed g a x)
+  obliquity_within_2 κs passed g a x = so_told 𝓤 (id⊢ 𝓤 _)
       (λ e b of. within.obliquity_within_2 passed.0 b (sym e ∙ of))
 
   pub arguments_within_2 : Tells 𝓤 arguments.ended (arguments.clauses 𝓛 mem run)
       (λ κs passed a x. (b : Arguments) → a ≡ FiveArguments.By b → within.ArgumentsWithin2 passed.0 b)
-  arguments_within_2 κs passed g a x = so_told 𝓤 (answers.arguments_answers 𝓛 mem run κs passed g a x)
+  arguments_within_2 κs passed g a x = so_told 𝓤 (id⊢ 𝓤 _)
       (λ e b by. within.arguments_within_2 passed.0 b (sym e ∙ by))
 
   pub sun_longitude_within_2 : Tells 𝓤 sun_longitude_lem.ended (sun_longitude_lem.clauses 𝓛 mem run)
       (λ κs passed a x. (b : ℤ) → a ≡ Angle.Of b → within.SunWithin2 passed.0 b)
-  sun_longitude_within_2 κs passed g a x = so_told 𝓤 (answers.sun_longitude_answers 𝓛 mem run κs passed g a x)
+  sun_longitude_within_2 κs passed g a x = so_told 𝓤 (id⊢ 𝓤 _)
       (λ e b of. within.sun_within_2 passed.0 b (sym e ∙ of))
 
   pub perihelion_within_2 : Tells 𝓤 perihelion.ended (perihelion.clauses 𝓛 mem run)
       (λ κs passed a x. (b : ℤ) → a ≡ Angle.Of b → Within2 b perihelion_row passed.0.0)
-  perihelion_within_2 κs passed g a x = so_told 𝓤 (answers.perihelion_answers 𝓛 mem run κs passed g a x)
+  perihelion_within_2 κs passed g a x = so_told 𝓤 (id⊢ 𝓤 _)
       (λ e b of. within.perihelion_within_2 passed.0 b (sym e ∙ of))
 
   pub sidereal_within_2 : Tells 𝓤 sidereal.ended (sidereal.clauses 𝓛 mem run)
       (λ κs passed a x. (b : ℤ) → a ≡ Angle.Of b → within.SiderealWithin2 passed.0 b)
-  sidereal_within_2 κs passed g a x = so_told 𝓤 (answers.sidereal_answers 𝓛 mem run κs passed g a x)
+  sidereal_within_2 κs passed g a x = so_told 𝓤 (id⊢ 𝓤 _)
       (λ e b of. within.sidereal_within_2 passed.0 b (sym e ∙ of))
 
   pub nutation_within_2 : Tells 𝓤 nutation.ended (nutation.clauses 𝓛 mem run)
       (λ κs passed a x. (n : Nutation) → a ≡ Nutated.By n → within.NutationWithin2 passed.0 n)
-  nutation_within_2 κs passed g a x = so_told 𝓤 (answers.nutation_answers 𝓛 mem run κs passed g a x)
+  nutation_within_2 κs passed g a x = so_told 𝓤 (id⊢ 𝓤 _)
       (λ e n by. within.nutation_within_2 passed.0 n (sym e ∙ by))
 
   -- ---- readings, of all that have an angle
 
   pub reading_reads : Tells 𝓤 reading.ended (reading.clauses 𝓛 mem run)
       (λ κs passed a x. (b : ℤ) → a ≡ Read.Angle b → Reads passed.0 passed.1.0 b)
-  reading_reads κs passed g a x = so_told 𝓤 (answers.reading_answers 𝓛 mem run κs passed g a x)
+  reading_reads κs passed g a x = so_told 𝓤 (id⊢ 𝓤 _)
       (λ e b k. readings.reading_reads passed.0 passed.1.0 b (sym e ∙ k))
 
   pub turbelicus_reading_reads : Tells 𝓤 turbelicus_reading.ended (turbelicus_reading.clauses 𝓛 mem run)
       (λ κs passed a x. a.has_angle ≡ pos 1 → Reads passed.0 passed.1.0 a.angle)
   turbelicus_reading_reads κs passed g a x =
-      so_told 𝓤 (answers_for_c.turbelicus_reading_answers 𝓛 mem run κs passed g a x)
+      so_told 𝓤 (id⊢ 𝓤 _)
       (λ e. rw e (got_reads passed.0 passed.1.0))
 
   -- ---- places
 
   pub place_in_range : Tells 𝓤 place.ended (place.clauses 𝓛 mem run)
       (λ κs passed a x. (p : Place) → a ≡ Placed.At p → PlaceInRange p)
-  place_in_range κs passed g a x = so_told 𝓤 (answers.place_answers 𝓛 mem run κs passed g a x)
+  place_in_range κs passed g a x = so_told 𝓤 (id⊢ 𝓤 _)
       (λ e p at. demand2.place_in_range passed.0 passed.1.0 passed.1.1.0 p (sym e ∙ at))
 
   -- where `refused` is 0
   pub turbelicus_place_in_range : Tells 𝓤 turbelicus_place.ended (turbelicus_place.clauses 𝓛 mem run)
       (λ κs passed a x. a.refused ≡ pos 0 → PlaceInRange (place_got a))
   turbelicus_place_in_range κs passed g a x =
-      so_told 𝓤 (answers_for_c.turbelicus_place_answers 𝓛 mem run κs passed g a x)
+      so_told 𝓤 (id⊢ 𝓤 _)
       (λ e. rw e (got_in_range _ _ _))

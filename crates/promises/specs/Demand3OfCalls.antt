@@ -3,9 +3,9 @@
 -- opposite ones in reverse order back. What the contract tells of these calls entails that every answer is a direction
 -- of accepted length, and that the last leads back.
 use Rattle.std.specs.Prelude.{◌≡◌, refl, List, [], ◌∷◌, ◌++◌, ◌*◌, ◌≤◌, length, pos}
-use Rattle.std.proofs.Common.{ap, ◌∙◌}
+use Rattle.std.proofs.Common.{ap, ◌∙◌, le_trans, arith}
 use seplogic.Ra.Ura.{Ura}
-use base.Logic.{SProp, ent}
+use base.Logic.{SProp, ent, id⊢}
 use prog.Memory.{Memory}
 use prog.Routine.{Routine}
 use types.Logic.{Logic}
@@ -18,15 +18,14 @@ use Rattle.rules.specs.Length.{squares}
 use Rattle.rules.specs.Turning.{Accepted, turned}
 use Rattle.rules.specs.Chain.{Turn, AcceptedTurns, none, more, way_back, turned_by, Answers, Within}
 use Rattle.laws.specs.WayBack.{append_accepted, way_back_accepted}
-use Rattle.laws.proofs.WayBack.{turned_by_accepted}
+use Rattle.laws.proofs.WayBack.{turned_by_accepted, way_back_near}
 use Rattle.answers.specs.Given.{direction_of}
 use Rattle.answers.specs.Answers.{turned_out}
 use Rattle.answers.specs.declared.turns.TurbelicusTurned.{TurbelicusTurned}
-use Rattle.promises.specs.Contracts.{Tells, so_told}
+use Rattle.promises.specs.OfContracts.{Tells, so_told}
 use Rattle.promises.specs.Calls.{Each, Call, all_told, all_tell}
-use Rattle.promises.specs.ByContract.{turn_contract, turn_answers}
-use Rattle.promises.specs.ByContractForC.{turbelicus_turn_contract, turbelicus_turn_answers}
-use Rattle.promises.specs.Demand3.{demand3}
+use Rattle.promises.specs.ByContract.{turn_contract}
+use Rattle.promises.specs.ByContractForC.{turbelicus_turn_contract}
 use Rattle.turning.specs.contracts.turn as turn
 use Rattle.module.specs.contracts.turns.turbelicus_turn as turbelicus_turn
 
@@ -69,6 +68,8 @@ module _ {C : Type 0} (form : Form C) where
       → Chained v ts cs → Each Follows cs
       → Each form.Kept cs × (turned_by ts (Turned.To v) ≡ Turned.To (arrived v cs))
   followed [] none v h [] chain fs = (tt, refl)
+  followed [] none v h (c ∷ cs) chain fs = absurd chain
+  followed (t ∷ ts) (more k ks) v h [] chain fs = absurd chain
   followed (t ∷ ts) (more k ks) v h (c ∷ cs) chain fs =
       let a = turned_by_accepted (t ∷ []) (more k none) v h in
       let rule : turned (form.turn c).axis (form.turn c).angle (form.from c) ≡ Turned.To a.direction =
@@ -82,9 +83,15 @@ module _ {C : Type 0} (form : Form C) where
       → OutAndBack v ts cs
   led_back v h ts ks l cs chain fs =
       let f = followed (ts ++ way_back ts) (append_accepted ts ks (way_back_accepted ts ks)) v h cs chain fs in
-      let b = (demand3 v h ts ks l).back in
-      let same : b.direction ≡ arrived v cs = cc (f.1, b.answer) in
-      record { kept = f.0; back = rw same at b.holds }
+      let n = way_back_near ts ks (omega arith) v h in
+      let same : n.direction ≡ arrived v cs = cc (f.1, n.answer) in
+      let more : 24 * length ts ≤ 32 * length ts = omega arith in
+      let back : Within (32 * length ts) n.direction v = record {
+        x = le_trans n.holds.x more;
+        y = le_trans n.holds.y more;
+        z = le_trans n.holds.z more;
+      } in
+      record { kept = f.0; back = rw same at back }
 
 -- ---- turning::turn
 
@@ -114,7 +121,7 @@ module _ {M : Type 1} {𝓤 : Ura M} (𝓛 : Logic 𝓤) (mem : Memory → SProp
       follows : Tells 𝓤 turn.ended (turn_contract 𝓛 mem run) (λ κs passed a x. (w : Direction)
           → turned passed.1.0 passed.1.1.0 passed.0 ≡ Turned.To w → Accepted (squares w)
           → (direction_in a ≡ w) × Answers (λ w. Accepted (squares w)) a)
-      follows κs passed g a x = so_told 𝓤 (turn_answers 𝓛 mem run κs passed g a x) (λ e w r k.
+      follows κs passed g a x = so_told 𝓤 (id⊢ 𝓤 _) (λ e w r k.
           (ap direction_in (e ∙ r), record { direction = w; answer = e ∙ r; holds = k }))
 
 -- ---- turbelicus_turn
@@ -160,5 +167,5 @@ module _ {M : Type 1} {𝓤 : Ura M} (𝓛 : Logic 𝓤) (mem : Memory → SProp
           → turned passed.1.1.1.0 passed.1.1.1.1.0
           (direction_of passed.0 passed.1.0 passed.1.1.0) ≡ Turned.To w → Accepted (squares w)
           → (direction_got a ≡ w) × Got a)
-      follows κs passed g a x = so_told 𝓤 (turbelicus_turn_answers 𝓛 mem run κs passed g a x) (λ e w r k.
+      follows κs passed g a x = so_told 𝓤 (id⊢ 𝓤 _) (λ e w r k.
           got_of a _ w e r k)

@@ -42,7 +42,7 @@ pub no_answer_for_all : (a : Placed) → ((s : Star) → star_refused s ≡ fals
     → ⊥
 unfolding star_refused between within or_nought
 no_answer_for_all a all =
-    let same_place = sym two_places.0 ∙ all sirius refl ∙ sym (all equinox refl) ∙ two_places.1 in
+    let same_place = sym sirius_stands ∙ all sirius refl ∙ sym (all equinox refl) ∙ equinox_stands in
     omega (arith, ap (λ p. nat_abs (ra_of p)) same_place)
   where
     ra_of : Placed → ℤ

@@ -40,12 +40,9 @@ later_larger m m' v v' t t' e e' h = law.later_larger m m' v v' t t' e e' h
 abbrev pub InStretch : Tt → Type 0
 InStretch t = Between (tt_of_utc first_utc) (tt_of_utc last_utc) t.0
 
-same_stretch : (t : Tt) → InStretch t ↔ stretch.InStretch t.0
-same_stretch t = rw (stretch.first_tt, stretch.last_tt) (λ h. h, λ h. h)
-
 -- no accepted UTC time has a TT outside it
 pub all_in_stretch : (m : Moment) (v : Ut) (t : Tt) → instants m ≡ Instants.At v t → InStretch t
-all_in_stretch m v t e = (same_stretch t).1 (law.accepted_in_stretch m v t e)
+all_in_stretch m v t e = rw (stretch.first_tt, stretch.last_tt) (law.accepted_in_stretch m v t e)
 
 -- "each TT between the first and the last of them comes from exactly one", and it is the one that is answered
 pub record FromExactlyOne (t : Tt) : Type 0 where
@@ -57,7 +54,8 @@ pub record FromExactlyOne (t : Tt) : Type 0 where
 
 pub from_exactly_one : (t : Tt) → InStretch t → FromExactlyOne t
 from_exactly_one t h =
-    let answer : utc_of_tt t ≡ Clocked.At (utc_at t.0) = law.utc_answered t ((same_stretch t).0 h) in
+    let s : stretch.InStretch t.0 = rw (stretch.first_tt, stretch.last_tt) at h in
+    let answer : utc_of_tt t ≡ Clocked.At (utc_at t.0) = law.utc_answered t s in
     record {
       utc = utc_at t.0;
       answered = answer;
@@ -79,7 +77,7 @@ tt_then_utc m v t e = law_proved.tt_then_utc t m v e
 pub refused_exactly : (t : Tt) → utc_of_tt t ≡ Clocked.Refused Refusal.Stretch ↔ ¬ (InStretch t)
 refused_exactly t =
     let f = law.utc_refused_20 t in
-    let s = same_stretch t in
+    let s : InStretch t ↔ stretch.InStretch t.0 = rw (stretch.first_tt, stretch.last_tt) (λ h. h, λ h. h) in
     (λ e h. f.0 e (s.0 h), λ n. f.1 (λ h. n (s.1 h)))
 
 -- and so exactly where no accepted UTC time has this TT

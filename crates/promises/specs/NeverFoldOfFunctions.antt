@@ -2,7 +2,6 @@
 -- times, and `utc::utc_of_tt` before or after it. `turbelicus_utc` gives the same numbers to C.
 use Rattle.std.specs.Prelude.{◌≡◌, ℤ, ◌<ℤ◌}
 use Rattle.std.proofs.Common.{sym, ◌∙◌}
-use Rattle.std.proofs.Math.Path.{ap}
 use seplogic.Ra.Ura.{Ura}
 use base.Logic.{SProp, ent, id⊢}
 use prog.Memory.{Memory}
@@ -15,23 +14,18 @@ use Rattle.rules.specs.declared.Utc.{Utc}
 use Rattle.rules.specs.declared.Instants.{Instants}
 use Rattle.rules.specs.declared.Clocked.{Clocked}
 use Rattle.rules.specs.Units.{+◌, −◌}
-use Rattle.rules.specs.Refusals.{given}
-use Rattle.rules.specs.Answers.{utc_numbers, clocked_answer}
+use Rattle.rules.specs.Answers.{utc_numbers}
 use Rattle.rules.specs.Dates.{ut_of}
 use Rattle.rules.specs.Utc.{moment_with, utc_of}
 use Rattle.laws.specs.Ranges.{Between}
 use Rattle.laws.specs.ClockOrder.{Earlier}
-use Rattle.answers.specs.Given.{tt_of}
-use Rattle.answers.specs.Answers.{clocked_out}
-use Rattle.promises.specs.Contracts.{Tells, so_told, together}
+use Rattle.laws.specs.NeverFold as law
+use Rattle.laws.proofs.NeverFold as law_proved
+use Rattle.promises.specs.OfContracts.{together}
 use Rattle.promises.specs.Calls.{Call, told}
-use Rattle.promises.specs.ByContract as answers
-use Rattle.promises.specs.ByContractForC as answers_for_c
-use Rattle.promises.specs.Demand1.Clocks.{utc_given}
 use Rattle.promises.specs.NeverFold as rules
 use Rattle.instants.specs.contracts.instants as instants
 use Rattle.utc.specs.contracts.utc_of_tt as utc_of_tt_lem
-use Rattle.module.specs.contracts.clocks.turbelicus_utc as turbelicus_utc
 
 module _ {M : Type 1} {𝓤 : Ura M} (𝓛 : Logic 𝓤) (mem : Memory → SProp 𝓤) (run : Routine → Fun 𝓤) where
   abbrev pub InstantsCall : Type 0
@@ -53,14 +47,14 @@ module _ {M : Type 1} {𝓤 : Ura M} (𝓛 : Logic 𝓤) (mem : Memory → SProp
       → ent 𝓤 (conj 𝓤 (instants_told one) (instants_told other))
       (fact 𝓤 (utc_of one.passed.0 ≡ utc_of other.passed.0))
   instants_same_only one other v v' t e e' = together 𝓤 (id⊢ 𝓤 _) (id⊢ 𝓤 _) (λ p q.
-      rules.same_only one.passed.0 other.passed.0 v v' t (sym p ∙ e) (sym q ∙ e'))
+      law_proved.same_tt one.passed.0 other.passed.0 v v' t t (sym p ∙ e) (sym q ∙ e') (λ i. t))
 
   pub instants_later_larger : (one other : InstantsCall) (v v' : Ut) (t t' : Tt)
       → one.answer ≡ Instants.At v t → other.answer ≡ Instants.At v' t'
       → Earlier (utc_numbers (utc_of one.passed.0)) (utc_numbers (utc_of other.passed.0))
       → ent 𝓤 (conj 𝓤 (instants_told one) (instants_told other)) (fact 𝓤 (t.0 <ℤ t'.0))
   instants_later_larger one other v v' t t' e e' h = together 𝓤 (id⊢ 𝓤 _) (id⊢ 𝓤 _) (λ p q.
-      rules.later_larger one.passed.0 other.passed.0 v v' t t' (sym p ∙ e) (sym q ∙ e') h)
+      law.later_larger one.passed.0 other.passed.0 v v' t t' (sym p ∙ e) (sym q ∙ e') h)
 
   -- ---- there and back
 
@@ -77,21 +71,4 @@ module _ {M : Type 1} {𝓤 : Ura M} (𝓛 : Logic 𝓤) (mem : Memory → SProp
       (fact 𝓤 (there.answer ≡ Instants.At (ut_of (moment_with u d)) back.passed.0))
   utc_then_instants back there u d e h f = together 𝓤 (id⊢ 𝓤 _) (id⊢ 𝓤 _) (λ p q.
       q ∙ rw f (rules.utc_then_tt back.passed.0 u (sym p ∙ e) d h))
-
   -- ---- of each TT of the stretch
-
-  -- the one UTC time that it comes from
-  pub utc_of_tt_one : Tells 𝓤 utc_of_tt_lem.ended (utc_of_tt_lem.clauses 𝓛 mem run)
-      (λ κs passed a x. (h : rules.InStretch passed.0)
-      → a ≡ Clocked.At (rules.from_exactly_one passed.0 h).utc)
-  utc_of_tt_one κs passed g a x = so_told 𝓤 (answers.utc_of_tt_answers 𝓛 mem run κs passed g a x)
-      (λ e h. e ∙ (rules.from_exactly_one passed.0 h).answered)
-
-  -- what C gets: 0 and its seven numbers
-  pub turbelicus_utc_one : Tells 𝓤 turbelicus_utc.ended (turbelicus_utc.clauses 𝓛 mem run)
-      (λ κs passed a x. (h : rules.InStretch (tt_of passed.0))
-      → a ≡ utc_given (rules.from_exactly_one (tt_of passed.0) h).utc)
-  unfolding clocked_out clocked_answer given
-  turbelicus_utc_one κs passed g a x =
-      so_told 𝓤 (answers_for_c.turbelicus_utc_answers 𝓛 mem run κs passed g a x)
-      (λ e h. e ∙ ap (λ c. clocked_out (clocked_answer c)) (rules.from_exactly_one (tt_of passed.0) h).answered)

@@ -34,7 +34,6 @@ use Rattle.laws.specs.Marks as marks
 use Rattle.laws.proofs.Marks as marks_proved
 use Rattle.laws.specs.SampleNight.{evening, here}
 use Rattle.laws.specs.SampleNoAngle.{pole_star, pole_place, zenith_star, zenith_site, zenith_place, pole_site, pole_and_zenith}
-use Rattle.laws.specs.SampleNoAngle as samples
 use Rattle.laws.proofs.SampleNoAngle as samples_proved
 use Rattle.night_list.specs.Fits.{ready_fits}
 
@@ -77,14 +76,23 @@ place_axes m star site ut tt p at e =
     let is : place_in n star ≡ p = rw (u, t) at i.is in
     subst (AxesTold n star) is (record { ra = marks.no_ra_iff n star; azimuth = marks.no_azimuth_iff n star })
 
-pub place_heights : (m : Moment) (star : Star) (site : Site) (p : Place) → place m star site ≡ Placed.At p
-    → HeightsTold p
-place_heights m star site p e =
+-- as two facts, from which the record is made
+pub two_heights : (m : Moment) (star : Star) (site : Site) (p : Place) → place m star site ≡ Placed.At p
+    → (p.ra ≡ Read.NoAngle ↔ nat_abs p.declination ≡ quarter)
+    × (p.azimuth ≡ Read.NoAngle ↔ nat_abs p.altitude ≡ quarter)
+two_heights m star site p e =
     let i = in_night m star site p e in
     let n = night i.ut i.tt_at site in
     let f = night_fits i.ut i.tt_at site (tt_within m i.ut i.tt_at i.at) in
-    subst HeightsTold i.is
-    (record { ra = marks_proved.no_ra_by_declination n f star; azimuth = marks_proved.no_azimuth_by_altitude n f star })
+    subst (λ p. (p.ra ≡ Read.NoAngle ↔ nat_abs p.declination ≡ quarter)
+    × (p.azimuth ≡ Read.NoAngle ↔ nat_abs p.altitude ≡ quarter)) i.is
+    (marks_proved.no_ra_by_declination n f star, marks_proved.no_azimuth_by_altitude n f star)
+
+pub place_heights : (m : Moment) (star : Star) (site : Site) (p : Place) → place m star site ≡ Placed.At p
+    → HeightsTold p
+place_heights m star site p e =
+    let h = two_heights m star site p e in
+    record { ra = h.0; azimuth = h.1 }
 
 -- three true places: at the pole of date, at the zenith, and both
 pub true_places : (place evening pole_star here ≡ Placed.At pole_place)

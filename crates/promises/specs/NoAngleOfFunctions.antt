@@ -3,7 +3,7 @@
 use Rattle.std.specs.Prelude.{◌≡◌, refl, ◌⊎◌, ◌↔◌, ℤ, pos, nat_abs}
 use Rattle.std.proofs.Common.{sym, ap, ◌∙◌, inl, inr, arith}
 use seplogic.Ra.Ura.{Ura}
-use base.Logic.{SProp}
+use base.Logic.{SProp, id⊢}
 use prog.Memory.{Memory}
 use prog.Routine.{Routine}
 use types.Logic.{Logic}
@@ -33,11 +33,9 @@ use Rattle.answers.specs.declared.turns.TurbelicusRead.{TurbelicusRead}
 use Rattle.answers.specs.declared.places.TurbelicusPlaced.{TurbelicusPlaced}
 use Rattle.answers.specs.declared.observed.TurbelicusObserved.{TurbelicusObserved}
 use Rattle.answers.specs.Answers.{read_out, placed_out, observed_out}
-use Rattle.promises.specs.Contracts.{Tells, so_told}
-use Rattle.promises.specs.ByContract as answers
-use Rattle.promises.specs.ByContractForC as answers_for_c
+use Rattle.promises.specs.OfContracts.{Tells, so_told}
 use Rattle.promises.specs.Demand1.Weather.{place_untouched}
-use Rattle.promises.specs.NoAngle.{AxesTold, HeightsTold, place_axes, place_heights}
+use Rattle.promises.specs.NoAngle.{AxesTold, HeightsTold, place_axes, two_heights}
 use Rattle.promises.specs.NoAngle as rules
 use Rattle.reading.specs.contracts.reading as reading
 use Rattle.place.specs.contracts.place as place
@@ -84,14 +82,16 @@ pub record PlaceTold (has_ra ra declination has_azimuth azimuth altitude : ℤ) 
   pub no_ra : has_ra ≡ pos 0 ↔ nat_abs declination ≡ quarter
   pub no_azimuth : has_azimuth ≡ pos 0 ↔ nat_abs altitude ≡ quarter
 
-told_of : (p : Place) → HeightsTold p
+told_of : (p : Place)
+    → (p.ra ≡ Read.NoAngle ↔ nat_abs p.declination ≡ quarter)
+    × (p.azimuth ≡ Read.NoAngle ↔ nat_abs p.altitude ≡ quarter)
     → PlaceTold (flag p.ra) (or_nought p.ra) p.declination
     (flag p.azimuth) (or_nought p.azimuth) p.altitude
 told_of p h = record {
   ra_flagged = flagged p.ra;
   azimuth_flagged = flagged p.azimuth;
-  no_ra = through (flag_of_none p.ra) h.ra;
-  no_azimuth = through (flag_of_none p.azimuth) h.azimuth;
+  no_ra = through (flag_of_none p.ra) h.0;
+  no_azimuth = through (flag_of_none p.azimuth) h.1;
 }
 
 abbrev pub GotPlaceTold : TurbelicusPlaced → Type 0
@@ -107,7 +107,7 @@ got_place m star site = by (places.place m star site) refl
   where
     by : (q : Placed) → places.place m star site ≡ q
         → (placed_out (placed_answer q)).refused ≡ pos 0 → GotPlaceTold (placed_out (placed_answer q))
-    by (Placed.At p) e z = told_of p (place_heights m star site p e)
+    by (Placed.At p) e z = told_of p (two_heights m star site p e)
     by (Placed.Refused r) e z = absurd (omega (arith, number_pos r, ap nat_abs z))
 
 got_observed : (m : Moment) (star : Star) (site : Site) (w : Weather)
@@ -117,7 +117,7 @@ got_observed m star site w = by (observed_place m star site w) refl
   where
     by : (b : Observed) → observed_place m star site w ≡ b
         → (observed_out (observed_answer b)).refused ≡ pos 0 → GotObservedTold (observed_out (observed_answer b))
-    by (Observed.At p h) e z = told_of p (place_heights m star site p (place_untouched m star site w p h e))
+    by (Observed.At p h) e z = told_of p (two_heights m star site p (place_untouched m star site w p h e))
     by (Observed.Refused r) e z = absurd (omega (arith, number_pos r, ap nat_abs z))
 
 -- ---- the functions
@@ -125,33 +125,34 @@ got_observed m star site w = by (observed_place m star site w) refl
 module _ {M : Type 1} {𝓤 : Ura M} (𝓛 : Logic 𝓤) (mem : Memory → SProp 𝓤) (run : Routine → Fun 𝓤) where
   pub reading_no_angle : Tells 𝓤 reading.ended (reading.clauses 𝓛 mem run)
       (λ κs passed a x. a ≡ Read.NoAngle ↔ (passed.0 ≡ pos 0) × (passed.1.0 ≡ pos 0))
-  reading_no_angle κs passed g a x = so_told 𝓤 (answers.reading_answers 𝓛 mem run κs passed g a x)
+  reading_no_angle κs passed g a x = so_told 𝓤 (id⊢ 𝓤 _)
       (λ e. rw e (rules.no_angle_exactly passed.0 passed.1.0))
 
   pub turbelicus_reading_told : Tells 𝓤 turbelicus_reading.ended (turbelicus_reading.clauses 𝓛 mem run)
       (λ κs passed a x. ReadTold passed.0 passed.1.0 a)
   turbelicus_reading_told κs passed g a x =
-      so_told 𝓤 (answers_for_c.turbelicus_reading_answers 𝓛 mem run κs passed g a x)
+      so_told 𝓤 (id⊢ 𝓤 _)
       (λ e. rw e (got_read passed.0 passed.1.0))
 
   -- by the directions of the night, and by the heights
   pub place_told : Tells 𝓤 place.ended (place.clauses 𝓛 mem run)
       (λ κs passed a x. (ut : Ut) (tt : Tt) (p : Place) → instants passed.0 ≡ Instants.At ut tt → a ≡ Placed.At p
       → AxesTold (night ut tt passed.1.1.0) passed.1.0 p × HeightsTold p)
-  place_told κs passed g a x = so_told 𝓤 (answers.place_answers 𝓛 mem run κs passed g a x) (λ e ut tt p at f. (
-    place_axes passed.0 passed.1.0 passed.1.1.0 ut tt p at (sym e ∙ f),
-    place_heights passed.0 passed.1.0 passed.1.1.0 p (sym e ∙ f),
-  ))
+  place_told κs passed g a x = so_told 𝓤 (id⊢ 𝓤 _) (λ e ut tt p at f.
+      let h = two_heights passed.0 passed.1.0 passed.1.1.0 p (sym e ∙ f) in (
+        place_axes passed.0 passed.1.0 passed.1.1.0 ut tt p at (sym e ∙ f),
+        record { ra = h.0; azimuth = h.1 },
+      ))
 
   -- where `refused` is 0
   pub turbelicus_place_told : Tells 𝓤 turbelicus_place.ended (turbelicus_place.clauses 𝓛 mem run)
       (λ κs passed a x. a.refused ≡ pos 0 → GotPlaceTold a)
   turbelicus_place_told κs passed g a x =
-      so_told 𝓤 (answers_for_c.turbelicus_place_answers 𝓛 mem run κs passed g a x)
+      so_told 𝓤 (id⊢ 𝓤 _)
       (λ e. rw e (got_place _ _ _))
 
   pub turbelicus_observed_place_told : Tells 𝓤 turbelicus_observed_place.ended
       (turbelicus_observed_place.clauses 𝓛 mem run) (λ κs passed a x. a.refused ≡ pos 0 → GotObservedTold a)
   turbelicus_observed_place_told κs passed g a x =
-      so_told 𝓤 (answers_for_c.turbelicus_observed_place_answers 𝓛 mem run κs passed g a x)
+      so_told 𝓤 (id⊢ 𝓤 _)
       (λ e. rw e (got_observed _ _ _ _))

@@ -4,7 +4,7 @@
 use Rattle.std.specs.Prelude.{◌≡◌, refl}
 use Rattle.std.proofs.Common.{sym, ◌∙◌}
 use seplogic.Ra.Ura.{Ura}
-use base.Logic.{SProp, ent, sep, emp, via, id⊢, fst∗, snd∗}
+use base.Logic.{SProp, ent, sep, emp, via, id⊢, fst∗, snd∗, emp∗, mono_l, both⊢}
 use contract.Monad.{conj, conj_l, conj_r, fact, fact_i, fact_mono, fact_use}
 use contract.Lifetimes.{Lfts}
 use denote.Triple.Entry.{Args, Res}
@@ -47,6 +47,11 @@ module _ {M : Type 1} (𝓤 : Ura M) where
       → ent 𝓤 P (fact 𝓤 r)
   both_told {P = P} {p = p} {q = q} {r = r} h k f =
       fact_use 𝓤 p h (λ x. fact_use 𝓤 q k (λ y. fact_i 𝓤 r P (f x y)))
+
+  -- a fact that holds asks nothing
+  pub nothing_but : {φ : Type 0} → φ → sep 𝓤 (fact 𝓤 φ) (emp 𝓤) ≡ emp 𝓤
+  nothing_but {φ} h = both⊢ 𝓤 (snd∗ 𝓤 (fact 𝓤 φ) (emp 𝓤))
+      (via 𝓤 (sep 𝓤 (emp 𝓤) (emp 𝓤)) (emp∗ 𝓤 (emp 𝓤)) (mono_l 𝓤 (emp 𝓤) (fact_i 𝓤 φ (emp 𝓤) h)))
 
   -- by two clauses of one contract
   pub clauses_told : {p q r : Type 0} → (p → q → r) → ent 𝓤 (sep 𝓤 (fact 𝓤 p) (fact 𝓤 q)) (fact 𝓤 r)
@@ -95,6 +100,16 @@ module _ {M : Type 1} (𝓤 : Ura M) where
       (fact_mono 𝓤 ((v ≡ rule) × (a ≡ after)) (a ≡ after) (λ p. p.1))
       (fact_mono 𝓤 ((w ≡ rule) × (b ≡ after)) (w ≡ rule) (λ p. p.0))
       (fact_mono 𝓤 ((w ≡ rule) × (b ≡ after)) (b ≡ after) (λ p. p.1))
+
+  -- the same, for the files of `OnlyOne`
+  pub one_and_content : {W X : Type 0} (v w rule : W) (c d after : X)
+      → ent 𝓤 (conj 𝓤 (fact 𝓤 ((v ≡ rule) × (c ≡ after))) (fact 𝓤 ((w ≡ rule) × (d ≡ after))))
+      (fact 𝓤 ((v ≡ w) × (c ≡ d)))
+  one_and_content v w rule c d after = told_each v w rule c d after
+      (fact_mono 𝓤 ((v ≡ rule) × (c ≡ after)) (v ≡ rule) (λ p. p.0))
+      (fact_mono 𝓤 ((v ≡ rule) × (c ≡ after)) (c ≡ after) (λ p. p.1))
+      (fact_mono 𝓤 ((w ≡ rule) × (d ≡ after)) (w ≡ rule) (λ p. p.0))
+      (fact_mono 𝓤 ((w ≡ rule) × (d ≡ after)) (d ≡ after) (λ p. p.1))
 
   -- two clauses, `⌜ r ≡ rule ⌝` and `⌜ now p.exit ≡ after ⌝`
   pub one_each : {W X : Type 0} (v w rule : W) (a b after : X)

@@ -4,25 +4,21 @@
 -- that all that is written is what the program prints for all that is read, wherever the reads are cut, and that no
 -- answer waits for another line.
 use Rattle.std.specs.Prelude.{◌≡◌, ℕ, take}
-use Rattle.std.proofs.Math.Path.{refl, ap}
-use Rattle.std.proofs.Common.{◌∙◌}
+use Rattle.std.proofs.Math.Path.{refl}
 use mathlib.Core.List.{List, [], ◌∷◌, ◌++◌, map, flatten}
 use seplogic.Ra.Ura.{Ura}
-use base.Logic.{SProp, ent}
+use base.Logic.{SProp}
 use prog.Memory.{Memory}
 use prog.Routine.{Routine}
 use types.Logic.{Logic}
-use contract.Monad.{Fun, conj, fact}
+use contract.Monad.{Fun, conj}
 use denote.Triple.Clauses.{Clauses}
-use Rattle.rules.specs.Times.{newline, overlaid}
+use Rattle.rules.specs.Times.{overlaid}
 use Rattle.line_reads.specs.declared.Program.{Program}
 use Rattle.line_reads.specs.declared.Start.{Start}
-use Rattle.line_reads.specs.Reads.{header_line, printed_by, none, answers_of, start_of_next, after_read, begun}
-use Rattle.line_reads.specs.Inputs.{ToTheEnd, GoingOn, answers_of_all}
-use Rattle.laws.specs.PuttingBytes.{front_of}
-use Rattle.line_reads.specs.Cuts.{printed_of_reads, printed_so_far}
-use Rattle.promises.specs.Contracts.{AsksNothing, Tells, so_told, clauses_told, together}
-use Rattle.promises.specs.Calls.{Each, Call, told, all_told, all_tell}
+use Rattle.line_reads.specs.Reads.{header_line, answers_of, after_read, begun}
+use Rattle.promises.specs.OfContracts.{AsksNothing, Tells, clauses_told}
+use Rattle.promises.specs.Calls.{Call, told, all_told}
 use Rattle.line_reads.specs.contracts.begin as begin
 use Rattle.line_reads.specs.contracts.answer_read as answer_read
 
@@ -90,61 +86,4 @@ module _ {M : Type 1} {𝓤 : Ura M} (𝓛 : Logic 𝓤) (mem : Memory → SProp
       (a ≡ after_read passed.0 passed.1.0 read)
       × (x.1.1.1.1.0.now ≡ overlaid (answers_of passed.0 passed.1.0 read) passed.1.1.1.1.0.now))
   answer_read_answers κs passed g a x = clauses_told 𝓤 (λ answer room. (answer, room))
-
   -- ---- what is written
-
-  first_written : (b : BeginCall)
-      → (b.answer ≡ begun b.passed.0)
-      × (b.exit.1.0.now ≡ overlaid (header_line b.passed.0) b.passed.1.0.now)
-      → written_first b ≡ header_line b.passed.0
-  first_written b e = rw (e.0, e.1) (front_of (header_line b.passed.0) _)
-
-  -- the answers to what a call is passed
-  abbrev answers_by : ReadCall → List ℕ
-  answers_by c = answers_of c.passed.0 c.passed.1.0 (read_by c)
-
-  -- they stand in the room, and the start is handed on
-  abbrev Follows : ReadCall → Type 0
-  Follows c = (c.answer ≡ after_read c.passed.0 c.passed.1.0 (read_by c))
-      × (c.exit.1.1.1.1.0.now ≡ overlaid (answers_by c) c.passed.1.1.1.1.0.now)
-
-  call_written : (c : ReadCall) → Follows c → written_by c ≡ answers_by c
-  call_written c e = rw (e.0, e.1) (front_of (answers_by c) _)
-
-  all_written : (p : Program) (s : Start) (cs : List ReadCall) → Chained p s cs → Each Follows cs
-      → flatten (map written_by cs) ≡ answers_of_all p s (map read_by cs)
-  unfolding flatten answers_of_all
-  all_written p s [] chain fs = refl
-  all_written p s (c ∷ cs) chain fs =
-      let w : written_by c ≡ answers_of p s (read_by c) =
-      call_written c fs.0 ∙ ap (λ p. answers_of p c.passed.1.0 (read_by c)) chain.0
-      ∙ ap (λ s. answers_of p s (read_by c)) chain.1.0 in
-      let n : c.answer.start ≡ start_of_next s (read_by c) =
-      ap (λ after. after.start) fs.0.0 ∙ ap (λ s. start_of_next s (read_by c)) chain.1.0 in
-      let rest = all_written p c.answer.start cs chain.1.1 fs.1 in
-      cc
-
-  -- what is written in all, by what the contracts tell
-  written_in_all_lem : (p : Program) (b : BeginCall) (cs : List ReadCall) → CallsOf p b cs
-      → ent 𝓤 (told_of_all b cs) (fact 𝓤 (written_in_all b cs ≡ header_line p ++ answers_of_all p none (map read_by cs)))
-  written_in_all_lem p b cs calls =
-      together 𝓤 (begin_answers b.lifetimes b.passed b.ghost b.answer b.exit)
-      (all_tell 𝓤 answer_read.ended read_contract answer_read_answers cs) (λ e fs.
-      let w = first_written b e ∙ ap header_line calls.0 in
-      let n : b.answer.start ≡ none = ap (λ after. after.start) e.0 in
-      let ws = all_written p b.answer.start cs calls.1 fs in
-      cc)
-
-  -- to the end of the input: all that is written is what the program prints for all that is read
-  pub printed_of_calls : (p : Program) (b : BeginCall) (cs : List ReadCall) → CallsOf p b cs
-      → ToTheEnd (map read_by cs)
-      → ent 𝓤 (told_of_all b cs) (fact 𝓤 (written_in_all b cs ≡ printed_by p (flatten (map read_by cs))))
-  printed_of_calls p b cs calls end =
-      so_told 𝓤 (written_in_all_lem p b cs calls) (λ w. w ∙ printed_of_reads p (map read_by cs) end)
-
-  -- and so it is whenever the last byte read ends a line, though the input goes on
-  pub printed_so_far_of_calls : (p : Program) (b : BeginCall) (cs : List ReadCall) (front : List ℕ) → CallsOf p b cs
-      → GoingOn (map read_by cs) → flatten (map read_by cs) ≡ front ++ newline ∷ []
-      → ent 𝓤 (told_of_all b cs) (fact 𝓤 (written_in_all b cs ≡ printed_by p (flatten (map read_by cs))))
-  printed_so_far_of_calls p b cs front calls goes ends =
-      so_told 𝓤 (written_in_all_lem p b cs calls) (λ w. w ∙ printed_so_far p (map read_by cs) front goes ends)

@@ -7,7 +7,14 @@ use base.Logic.{SProp}
 use prog.Memory.{Memory}
 use prog.Routine.{Routine}
 use types.Logic.{Logic}
-use contract.Monad.{Fun, fact_mono}
+use contract.Monad.{Fun}
+use contract.Lifetimes.{Lfts, lft_at}
+use contract.BorrowLft.{◌⊑◌, ⊑_static}
+use denote.RattleType.{RattleType}
+use mir.Syntax.{Dict}
+use Rattle.std.specs.declared.io.traits.Read.{Ghosts}
+use Rattle.std.specs.contracts.fs.File.{the_row as File}
+use Rattle.core.specs.contracts.rt.Stdin.{the_row as Stdin}
 use Rattle.rules.specs.Times.{newline, overlaid}
 use Rattle.laws.specs.PuttingBytes.{front_of}
 use Rattle.line_asked.specs.Asking.{length_before}
@@ -15,7 +22,7 @@ use Rattle.input.specs.Input.{line_with_end}
 use Rattle.line_places.specs.declared.air.Air.{Air}
 use Rattle.line_places.specs.Program.{first_line, places}
 use Rattle.line_places.specs.Cuts.{file_kept, line_kept, input_cut, file_cut}
-use Rattle.promises.specs.Contracts.{AsksNothing, Tells, clauses_told}
+use Rattle.promises.specs.OfContracts.{AsksNothing, Tells, clauses_told, nothing_but}
 use Rattle.input.specs.contracts.read_file as read_file
 use Rattle.input.specs.contracts.read_line as read_line
 use Rattle.entries_listing.specs.contracts.read as read
@@ -70,23 +77,30 @@ module _ {M : Type 1} {𝓤 : Ura M} (𝓛 : Logic 𝓤) (mem : Memory → SProp
       (λ κs passed a x. (file input : List ℕ)
       → passed.0.now ≡ kept_of_file file → passed.1.0.now ≡ kept_of_input input
       → take a x.1.1.1.1.0.now ≡ places passed.1.1.0 passed.1.1.1.0 file input)
+  unfolding places
   places_tells κs passed g a x = clauses_told 𝓤 (λ e f file input h k.
-      printed a _ _ _ e f ∙ rw (h, k) (kept_decides passed.1.1.0 passed.1.1.1.0 file input))
+      let decides : places passed.1.1.0 passed.1.1.1.0 (kept_of_file file) (kept_of_input input)
+      ≡ places passed.1.1.0 passed.1.1.1.0 file input =
+      file_cut passed.1.1.0 passed.1.1.1.0 file (kept_of_input input)
+      ∙ input_cut passed.1.1.0 passed.1.1.1.0 file (line_with_end input) ∙ rw (first_line_same input) in
+      printed a _ _ _ e f ∙ rw (h, k) decides)
 
   -- ---- what is read: no more than the room holds, and of a line what would be kept of it again
 
-  -- a file's number, the room
-  pub read_file_tells : Tells 𝓤 read_file.ended (read_file.clauses 𝓛 mem run)
+  -- of every type of reader: the file, the room
+  pub read_file_tells : (F : RattleType) (reads : Ghosts F.Denot) (dict : Dict)
+      → Tells 𝓤 (read_file.ended F reads dict) (read_file.clauses F reads dict 𝓛 mem run)
       (λ κs passed r x. length x.1.0.now ≡ file_kept
-      → kept_of_file (take r.length x.1.0.now) ≡ take r.length x.1.0.now)
-  read_file_tells κs passed g r x = fact_mono 𝓤 _ _ (λ read e.
-      kept_whole r.length x.1.0.now file_kept read.within e)
+      → kept_of_file (take r.read.length x.1.0.now) ≡ take r.read.length x.1.0.now)
+  read_file_tells F reads dict κs passed g r x = clauses_told 𝓤 (λ read failed e.
+      kept_whole r.read.length x.1.0.now file_kept read.within e)
 
-  pub read_line_tells : Tells 𝓤 read_line.ended (read_line.clauses 𝓛 mem run)
+  pub read_line_tells : (I : RattleType) (reads : Ghosts I.Denot) (dict : Dict)
+      → Tells 𝓤 (read_line.ended I reads dict) (read_line.clauses I reads dict 𝓛 mem run)
       (λ κs passed r x. length x.1.0.now ≡ line_kept
-      → kept_of_input (take r.length x.1.0.now) ≡ take r.length x.1.0.now)
-  read_line_tells κs passed g r x = fact_mono 𝓤 _ _ (λ read e.
-      ap (take line_kept) read.line ∙ kept_whole r.length x.1.0.now line_kept read.within e)
+      → kept_of_input (take r.read.length x.1.0.now) ≡ take r.read.length x.1.0.now)
+  read_line_tells I reads dict κs passed g r x = clauses_told 𝓤 (λ read failed e.
+      ap (take line_kept) read.line ∙ kept_whole r.read.length x.1.0.now line_kept read.within e)
 
   -- ---- no function asks anything
 
@@ -99,8 +113,22 @@ module _ {M : Type 1} {𝓤 : Ura M} (𝓛 : Logic 𝓤) (mem : Memory → SProp
   pub command_of_asks_nothing : AsksNothing 𝓤 command_of_lem.ended (command_of_lem.clauses 𝓛 mem run)
   command_of_asks_nothing κs passed g = refl
 
-  pub read_file_asks_nothing : AsksNothing 𝓤 read_file.ended (read_file.clauses 𝓛 mem run)
-  read_file_asks_nothing κs passed g = refl
+  -- of every type of reader that outlives its loan, as the type `&mut F` itself wants of F
+  pub read_file_asks_nothing : (F : RattleType) (reads : Ghosts F.Denot) (dict : Dict)
+      → ((κs : Lfts 3) → lft_at 3 2 tt κs ⊑ F.lives)
+      → AsksNothing 𝓤 (read_file.ended F reads dict) (read_file.clauses F reads dict 𝓛 mem run)
+  read_file_asks_nothing F reads dict lives κs passed g = nothing_but 𝓤 (lives κs)
 
-  pub read_line_asks_nothing : AsksNothing 𝓤 read_line.ended (read_line.clauses 𝓛 mem run)
-  read_line_asks_nothing κs passed g = refl
+  pub read_line_asks_nothing : (I : RattleType) (reads : Ghosts I.Denot) (dict : Dict)
+      → ((κs : Lfts 3) → lft_at 3 2 tt κs ⊑ I.lives)
+      → AsksNothing 𝓤 (read_line.ended I reads dict) (read_line.clauses I reads dict 𝓛 mem run)
+  read_line_asks_nothing I reads dict lives κs passed g = nothing_but 𝓤 (lives κs)
+
+  -- and so of what the program reads: a file, and standard input
+  pub read_of_a_file_asks_nothing : (reads : Ghosts File.Denot) (dict : Dict)
+      → AsksNothing 𝓤 (read_file.ended File reads dict) (read_file.clauses File reads dict 𝓛 mem run)
+  read_of_a_file_asks_nothing reads dict = read_file_asks_nothing File reads dict (λ κs. ⊑_static _)
+
+  pub read_of_standard_input_asks_nothing : (reads : Ghosts Stdin.Denot) (dict : Dict)
+      → AsksNothing 𝓤 (read_line.ended Stdin reads dict) (read_line.clauses Stdin reads dict 𝓛 mem run)
+  read_of_standard_input_asks_nothing reads dict = read_line_asks_nothing Stdin reads dict (λ κs. ⊑_static _)

@@ -2,7 +2,7 @@
 -- altitude only: `Demand1/Weather.place_untouched` says that the place beside it is the place's own. What is refused,
 -- and exactly when, is `Demand1/Weather`; that every rule is followed to the last unit, `ByContract` and
 -- `ByContractForC`.
-use Rattle.std.specs.Prelude.{◌≡◌, true, false, List, ◌+◌, ◌*◌, ◌≤◌, Float, ℤ, pos, nat_abs, ◌+ℤ◌, ◌*ℤ◌, ◌<ℤ◌, ◌≤ℤ◌}
+use Rattle.std.specs.Prelude.{◌≡◌, true, false, List, ◌+◌, ◌≤◌, Float, ℤ, pos, nat_abs, ◌+ℤ◌, ◌*ℤ◌, ◌<ℤ◌, ◌≤ℤ◌}
 use Rattle.std.proofs.Common.{lit<}
 use Rattle.std.specs.Int.Signed.{lt_z}
 use Rattle.rules.specs.declared.Reading.{Reading}

@@ -19,6 +19,7 @@ use Rattle.rules.specs.Weather.{recorded}
 use Rattle.rules.specs.Place as places
 use Rattle.rules.specs.Refraction.{observed, observed_in, observed_altitude, observed_at, observed_beside, observed_place}
 use Rattle.laws.specs.RefusalNumbers.{number_pos}
+use Rattle.laws.specs.ObservedAltitude as altitudes
 use Rattle.answers.specs.declared.observed.TurbelicusObserved.{TurbelicusObserved}
 use Rattle.laws.specs.PlaceAnswers.{read_of, read_again}
 use Rattle.answers.specs.Answers.{altitude_out, observed_out}
@@ -54,7 +55,7 @@ observes w h a e =
     let s = seen_by w h a e in
     let f = rules.handed_in_range w s.by s.kept in
     subst (Observes h) (sym s.is) (record {
-      within = λ k. rules.observed_within s.by h f k;
+      within = λ k. altitudes.observed_within s.by h f k;
       above = rules.observed_above s.by h f;
     })
 

@@ -1,7 +1,7 @@
 -- Change C-11 of the functions themselves, by their contracts: whatever is passed, the record that is answered has its
 -- fields in range and is taken back as it is; an observed altitude is what `RefractionAnswers` says of it; and two calls
 -- with one record keep the order of altitudes.
-use Rattle.std.specs.Prelude.{◌≡◌, ◌≤◌, ℤ, pos, ◌+ℤ◌, ◌<ℤ◌, ◌≤ℤ◌}
+use Rattle.std.specs.Prelude.{◌≡◌, ℤ, pos, ◌+ℤ◌, ◌<ℤ◌, ◌≤ℤ◌}
 use Rattle.std.proofs.Common.{sym, ap, ◌∙◌}
 use seplogic.Ra.Ura.{Ura}
 use base.Logic.{SProp, ent, id⊢}
@@ -12,7 +12,6 @@ use contract.Monad.{Fun, conj, fact}
 use Rattle.rules.specs.declared.Weather.{Weather}
 use Rattle.rules.specs.declared.Angle.{Angle}
 use Rattle.rules.specs.declared.Weathered.{Weathered}
-use Rattle.rules.specs.Refusals.{refused}
 use Rattle.rules.specs.Units.{+◌}
 use Rattle.rules.specs.Weather.{recorded}
 use Rattle.rules.specs.Place as places
@@ -20,10 +19,8 @@ use Rattle.rules.specs.Refraction.{observed_altitude}
 use Rattle.laws.specs.Weather.{FieldsInRange}
 use Rattle.stars.specs.Numbers.{star_of}
 use Rattle.answers.specs.Given.{moment_of, site_of}
-use Rattle.promises.specs.Contracts.{Tells, so_told, together}
+use Rattle.promises.specs.OfContracts.{Tells, so_told, together}
 use Rattle.promises.specs.Calls.{Call, told}
-use Rattle.promises.specs.ByContract as answers
-use Rattle.promises.specs.ByContractForC as answers_for_c
 use Rattle.promises.specs.Refraction as rules
 use Rattle.weather.specs.contracts.kept.take_from as take_from
 use Rattle.refraction.specs.contracts.observed.observed_altitude as observed_altitude_lem
@@ -36,7 +33,7 @@ module _ {M : Type 1} {𝓤 : Ura M} (𝓛 : Logic 𝓤) (mem : Memory → SProp
 
   pub take_from_in_range : Tells 𝓤 take_from.ended (take_from.clauses 𝓛 mem run)
       (λ κs passed a x. (v : Weather) → a ≡ Weathered.Now v → FieldsInRange v × (recorded v ≡ Weathered.Now v))
-  take_from_in_range κs passed g a x = so_told 𝓤 (answers.take_from_answers 𝓛 mem run κs passed g a x) (λ e v f. (
+  take_from_in_range κs passed g a x = so_told 𝓤 (id⊢ 𝓤 _) (λ e v f. (
     rules.taken_in_range passed.0 v passed.1.0 (sym e ∙ f),
     rules.taken_back passed.0 v passed.1.0 (sym e ∙ f),
   ))
@@ -46,14 +43,14 @@ module _ {M : Type 1} {𝓤 : Ura M} (𝓛 : Logic 𝓤) (mem : Memory → SProp
   pub observed_altitude_observes : Tells 𝓤 observed_altitude_lem.ended (observed_altitude_lem.clauses 𝓛 mem run)
       (λ κs passed a x. (b : ℤ) → a ≡ Angle.Of b → Observes passed.0 b)
   observed_altitude_observes κs passed g a x =
-      so_told 𝓤 (answers.observed_altitude_answers 𝓛 mem run κs passed g a x)
+      so_told 𝓤 (id⊢ 𝓤 _)
       (λ e b f. observes passed.1.0 passed.0 b (sym e ∙ f))
 
   pub turbelicus_observed_altitude_observes : Tells 𝓤 turbelicus_observed_altitude.ended
       (turbelicus_observed_altitude.clauses 𝓛 mem run)
       (λ κs passed a x. a.refused ≡ pos 0 → Observes passed.0 a.altitude)
   turbelicus_observed_altitude_observes κs passed g a x =
-      so_told 𝓤 (answers_for_c.turbelicus_observed_altitude_answers 𝓛 mem run κs passed g a x)
+      so_told 𝓤 (id⊢ 𝓤 _)
       (λ e. rw e (got_observes _ passed.0))
 
   -- the place in its ranges, that of the same star, and what observes its altitude
@@ -69,7 +66,7 @@ module _ {M : Type 1} {𝓤 : Ura M} (𝓛 : Logic 𝓤) (mem : Memory → SProp
       (star_of star.0 star.1.0 star.1.1.0 star.1.1.1.0)
       (site_of site.0 site.1.0)) a)
   turbelicus_observed_place_observes κs passed g a x =
-      so_told 𝓤 (answers_for_c.turbelicus_observed_place_answers 𝓛 mem run κs passed g a x)
+      so_told 𝓤 (id⊢ 𝓤 _)
       (λ e. rw e (got_place _ _ _ _))
 
   -- ---- two calls with one record

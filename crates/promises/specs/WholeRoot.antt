@@ -14,7 +14,7 @@ use Rattle.rules.specs.Length.{root, root_from, kept}
 use Rattle.rules.specs.ManualRoot.{binary_digits, trials, first_power, manual_root}
 use Rattle.laws.specs.Root.{root_root}
 use Rattle.laws.specs.ManualRoot as law
-use Rattle.promises.specs.Contracts.{Tells, so_told}
+use Rattle.promises.specs.OfContracts.{Tells, so_told}
 use Rattle.roots.specs.contracts.whole_root as whole_root
 use Rattle.roots.specs.contracts.length_root as length_root
 use Rattle.roots.specs.contracts.near_root as near_root

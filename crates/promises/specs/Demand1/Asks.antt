@@ -7,7 +7,7 @@ use prog.Memory.{Memory}
 use prog.Routine.{Routine}
 use types.Logic.{Logic}
 use contract.Monad.{Fun}
-use Rattle.promises.specs.Contracts.{AsksNothing}
+use Rattle.promises.specs.OfContracts.{AsksNothing}
 use Rattle.module.specs.contracts.clocks.turbelicus_utc as turbelicus_utc
 use Rattle.module.specs.contracts.places.turbelicus_place as turbelicus_place
 use Rattle.module.specs.contracts.turns.turbelicus_turn as turbelicus_turn

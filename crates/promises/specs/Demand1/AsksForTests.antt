@@ -7,7 +7,7 @@ use prog.Memory.{Memory}
 use prog.Routine.{Routine}
 use types.Logic.{Logic}
 use contract.Monad.{Fun}
-use Rattle.promises.specs.Contracts.{AsksNothing}
+use Rattle.promises.specs.OfContracts.{AsksNothing}
 use Rattle.tests_functions.specs.contracts.numbers.tests_rnd_quotient as tests_rnd_quotient
 use Rattle.tests_functions.specs.contracts.numbers.tests_rnd_product_quotient as tests_rnd_product_quotient
 use Rattle.tests_functions.specs.contracts.numbers.tests_whole_root as tests_whole_root

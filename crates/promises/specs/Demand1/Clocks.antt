@@ -5,7 +5,7 @@ use Rattle.std.proofs.Math.Path.{refl}
 use Rattle.std.proofs.Common.{sym, ap, ◌∙◌}
 use Rattle.std.proofs.Math.IntN.{nat_abs}
 use seplogic.Ra.Ura.{Ura}
-use base.Logic.{SProp}
+use base.Logic.{SProp, id⊢}
 use prog.Memory.{Memory}
 use prog.Routine.{Routine}
 use types.Logic.{Logic}
@@ -22,9 +22,7 @@ use Rattle.laws.specs.Checks.{FirstGiven, NoneGiven}
 use Rattle.answers.specs.declared.clocks.TurbelicusClocked.{TurbelicusClocked}
 use Rattle.answers.specs.Given.{tt_of}
 use Rattle.answers.specs.Answers.{clocked_out}
-use Rattle.promises.specs.Contracts.{Tells, so_told}
-use Rattle.promises.specs.ByContract as answers
-use Rattle.promises.specs.ByContractForC as answers_for_c
+use Rattle.promises.specs.OfContracts.{Tells, so_told}
 use Rattle.promises.specs.Demand1.Checks.{stretch_checks}
 use Rattle.promises.specs.Demand1.InOrder.{Refuses, first_map, refused_exactly, answered_exactly}
 use Rattle.promises.specs.Demand1.Thirteen.{Never13, never_13, number_not_13}
@@ -93,13 +91,13 @@ turbelicus_utc_given t = rw (turbelicus_utc_checked t)
 module _ {M : Type 1} {𝓤 : Ura M} (𝓛 : Logic 𝓤) (mem : Memory → SProp 𝓤) (run : Routine → Fun 𝓤) where
   pub utc_of_tt_tells : Tells 𝓤 utc_of_tt_lem.ended (utc_of_tt_lem.clauses 𝓛 mem run)
       (λ κs passed a x. Refuses a Clocked.Refused (stretch_checks passed.0))
-  utc_of_tt_tells κs passed g a x = so_told 𝓤 (answers.utc_of_tt_answers 𝓛 mem run κs passed g a x)
+  utc_of_tt_tells κs passed g a x = so_told 𝓤 (id⊢ 𝓤 _)
       (λ e r. rw e (utc_refused_lem passed.0 r))
 
   pub turbelicus_utc_tells : Tells 𝓤 turbelicus_utc.ended (turbelicus_utc.clauses 𝓛 mem run)
       (λ κs passed a x. Refuses a utc_refused (stretch_checks (tt_of passed.0)))
   turbelicus_utc_tells κs passed g a x =
-      so_told 𝓤 (answers_for_c.turbelicus_utc_answers 𝓛 mem run κs passed g a x)
+      so_told 𝓤 (id⊢ 𝓤 _)
       (λ e r. rw e (turbelicus_utc_refused (tt_of passed.0) r))
 
   pub utc_of_tt_not_13 : Tells 𝓤 utc_of_tt_lem.ended (utc_of_tt_lem.clauses 𝓛 mem run)

@@ -1,27 +1,23 @@
 -- Demand 1 of the night list, `night_list::night_list`: 1 to 4, 6, 11, and the entries as they were where one of these
 -- is given; then 5 for each entry, which marks that entry alone.
-use Rattle.std.specs.Prelude.{◌≡◌, refl, ◌↔◌, Bool, true, false, cond, List, [], ◌∷◌, map, pos}
+use Rattle.std.specs.Prelude.{◌≡◌, refl, ◌↔◌, Bool, true, false, cond, List, map}
 use Rattle.std.proofs.Common.{sym, ap, ◌∙◌, arith}
 use Rattle.rules.specs.declared.Moment.{Moment}
 use Rattle.rules.specs.declared.Site.{Site}
 use Rattle.rules.specs.declared.Night.{Night}
 use Rattle.rules.specs.declared.Entry.{Entry}
-use Rattle.rules.specs.declared.Refusal.{Refusal}
 use Rattle.rules.specs.declared.Prepared.{Prepared}
 use Rattle.rules.specs.declared.Listed.{Listed}
 use Rattle.rules.specs.Checks.{first}
-use Rattle.rules.specs.Refusals.{given, refused}
-use Rattle.rules.specs.Answers.{listed_answer}
 use Rattle.rules.specs.Stars.{star_refused}
 use Rattle.rules.specs.Place.{place_in}
 use Rattle.rules.specs.ListReading.{noughts}
 use Rattle.rules.specs.NightList.{mark_of, angles_of, entry_of, worked, marked, listed_in, night_list, worked_in}
 use Rattle.rules.specs.NightList.{entries_after_night}
 use Rattle.laws.specs.Marks.{mark_below_2}
-use Rattle.laws.specs.Checks.{FirstGiven}
 use Rattle.laws.specs.Ranges.{true_not_false}
 use Rattle.promises.specs.Demand1.Checks.{night_checks, night_list_checks}
-use Rattle.promises.specs.Demand1.InOrder.{first_map, first_kept, refused_exactly}
+use Rattle.promises.specs.Demand1.InOrder.{first_map}
 use Rattle.promises.specs.Demand1.Places.{ready_night, night_checked}
 
 -- the entries, each one worked
@@ -36,21 +32,6 @@ night_list_checked m site entries =
     ap (λ p. listed_in p entries) (night_checked m site)
     ∙ first_map (λ p. listed_in p entries) (night_checks m site) Prepared.Refused (Prepared.For (ready_night m site))
 
-pub night_list_refused : (m : Moment) (site : Site) (entries : List Entry) (r : Refusal)
-    → (night_list m site entries ≡ Listed.Refused r) ↔ FirstGiven (night_list_checks m site entries) r
-unfolding listed_answer given refused
-night_list_refused m site entries r = rw (night_list_checked m site entries)
-    (refused_exactly (λ a. pos (listed_answer a).number) Listed.Refused _ (λ _. refl) refl
-    (night_list_checks m site entries) r)
-
-pub night_list_answer : (m : Moment) (site : Site) (entries : List Entry)
-    → listed_answer (night_list m site entries)
-    ≡ first (night_list_checks m site entries) (λ r. refused r 1)
-    (given (pos (marked (worked_entries m site entries)) ∷ []))
-unfolding listed_answer
-night_list_answer m site entries = ap listed_answer (night_list_checked m site entries)
-    ∙ first_map listed_answer (night_list_checks m site entries) Listed.Refused _
-
 pub night_list_content : (m : Moment) (site : Site) (entries : List Entry)
     → entries_after_night m site entries
     ≡ first (night_list_checks m site entries) (λ _. entries) (worked_entries m site entries)
@@ -58,11 +39,6 @@ unfolding entries_after_night worked_in first
 night_list_content m site entries =
     ap (λ p. worked_in p entries) (night_checked m site)
     ∙ first_map (λ p. worked_in p entries) (night_checks m site) Prepared.Refused (Prepared.For (ready_night m site))
-
-pub night_list_kept : (m : Moment) (site : Site) (entries : List Entry) (r : Refusal)
-    → FirstGiven (night_list_checks m site entries) r → entries_after_night m site entries ≡ entries
-night_list_kept m site entries r f =
-    night_list_content m site entries ∙ first_kept (night_list_checks m site entries) entries _ r f
 
 -- ---- 5, for each entry
 

@@ -1,6 +1,6 @@
 -- Demand 1 of places: `place::place` 1 to 4, 5, 6; `night::night_of` 1 to 4, 6.
-use Rattle.std.specs.Prelude.{◌≡◌, refl, ◌↔◌, List, [], ◌∷◌, ◌++◌, ◌≤◌, ℤ, pos}
-use Rattle.std.proofs.Common.{ap, ◌∙◌, arith}
+use Rattle.std.specs.Prelude.{◌≡◌, refl, ◌↔◌, List, [], ◌∷◌, ◌++◌, ℤ, pos}
+use Rattle.std.proofs.Common.{ap, ◌∙◌}
 use Rattle.rules.specs.declared.Moment.{Moment}
 use Rattle.rules.specs.declared.Star.{Star}
 use Rattle.rules.specs.declared.Site.{Site}
@@ -11,14 +11,14 @@ use Rattle.rules.specs.declared.Instants.{Instants}
 use Rattle.rules.specs.declared.Prepared.{Prepared}
 use Rattle.rules.specs.declared.Placed.{Placed}
 use Rattle.rules.specs.Checks.{first}
-use Rattle.rules.specs.Refusals.{number, given, refused}
-use Rattle.rules.specs.Answers.{or_nought, flag, place_numbers, placed_answer, prepared_answer, parts}
+use Rattle.rules.specs.Refusals.{given, refused}
+use Rattle.rules.specs.Answers.{or_nought, flag, prepared_answer, parts}
 use Rattle.rules.specs.Dates.{ut_of, tt_of}
 use Rattle.rules.specs.Night.{night, night_at, night_of}
 use Rattle.rules.specs.Place.{place_in, place_at, place}
 use Rattle.laws.specs.Checks.{FirstGiven}
 use Rattle.promises.specs.Demand1.Checks.{date_checks, place_checks, night_checks}
-use Rattle.promises.specs.Demand1.InOrder.{number_to, first_map, refused_exactly}
+use Rattle.promises.specs.Demand1.InOrder.{first_map, refused_exactly}
 use Rattle.promises.specs.Demand1.Dates.{instants_checked}
 
 -- what a moment and a site make ready, where none of their checks is given
@@ -35,32 +35,11 @@ place_checked m star site =
     ap (λ i. place_at i star site) (instants_checked m)
     ∙ first_map (λ i. place_at i star site) (date_checks m) Instants.Refused (Instants.At (ut_of m) (tt_of m))
 
-pub place_refused_lem : (m : Moment) (star : Star) (site : Site) (r : Refusal)
-    → (place m star site ≡ Placed.Refused r) ↔ FirstGiven (place_checks m star site) r
-unfolding placed_answer given refused
-place_refused_lem m star site r = rw (place_checked m star site)
-    (refused_exactly (λ a. pos (placed_answer a).number) Placed.Refused _ (λ _. refl) refl (place_checks m star site) r)
-
--- a place never answers 7, 8, 12 or 13: its numbers are 1 to 6
-pub place_number : (m : Moment) (star : Star) (site : Site) (r : Refusal) → place m star site ≡ Placed.Refused r
-    → number r ≤ 6
-unfolding number
-place_number m star site r e = number_to 6 (place_checks m star site)
-    (omega arith, (omega arith, (omega arith, (omega arith, (omega arith, (omega arith, tt)))))) r
-    ((place_refused_lem m star site r).0 e)
-
 -- right ascension with its flag, declination, azimuth with its flag, altitude
 abbrev pub six_numbers : Place → List ℤ
 six_numbers p =
     flag p.ra ∷ or_nought p.ra ∷ p.declination
     ∷ flag p.azimuth ∷ or_nought p.azimuth ∷ p.altitude ∷ []
-
-pub place_answer : (m : Moment) (star : Star) (site : Site)
-    → placed_answer (place m star site)
-    ≡ first (place_checks m star site) (λ r. refused r 6) (given (six_numbers (place_in (ready_night m site) star)))
-unfolding placed_answer place_numbers
-place_answer m star site = ap placed_answer (place_checked m star site)
-    ∙ first_map placed_answer (place_checks m star site) Placed.Refused _
 
 -- ---- a moment and a site made ready
 

@@ -4,25 +4,22 @@
 use Rattle.std.specs.Prelude.{◌≡◌, refl, ◌↔◌, Bool, true, false, not, ◌&&◌, cond, List, [], ◌∷◌, ℕ, eqb, ℤ}
 use Rattle.std.proofs.Common.{sym, ap, ◌∙◌, inl, inr, arith, eq-eqb, eqb-true}
 use Rattle.rules.specs.declared.Moment.{Moment}
-use Rattle.rules.specs.declared.Star.{Star}
 use Rattle.rules.specs.declared.Site.{Site}
 use Rattle.rules.specs.declared.Direction.{Direction}
 use Rattle.rules.specs.declared.Refusal.{Refusal}
 use Rattle.rules.specs.declared.Turned.{Turned}
 use Rattle.rules.specs.declared.Prepared.{Prepared}
-use Rattle.rules.specs.declared.Placed.{Placed}
 use Rattle.rules.specs.Checks.{Check, first}
 use Rattle.rules.specs.Refusals.{Answer, number, given, refused}
 use Rattle.rules.specs.Length.{squares, root, length_refused, brought_to_length}
 use Rattle.rules.specs.Turning.{turned}
 use Rattle.rules.specs.Night.{night_of}
-use Rattle.rules.specs.Place.{place}
 use Rattle.laws.specs.Checks.{FirstGiven}
 use Rattle.laws.specs.Ranges.{both_true, true_not_false}
-use Rattle.promises.specs.Demand1.Checks.{length_checks, turn_checks, place_checks, night_checks}
+use Rattle.promises.specs.Demand1.Checks.{length_checks, turn_checks, night_checks}
 use Rattle.promises.specs.Demand1.InOrder.{Refuses}
 use Rattle.promises.specs.Demand1.Turns.{length_refused_lem, turn_refused_lem}
-use Rattle.promises.specs.Demand1.Places.{place_refused_lem, night_refused}
+use Rattle.promises.specs.Demand1.Places.{night_refused}
 
 -- ---- the rule has it
 
@@ -89,10 +86,6 @@ number_not_13 answer cs count values h w e = paper_not_13 cs count values w (sym
 pub turned_not_13 : (axis angle : ℤ) (v : Direction) → Never13 (turned axis angle v) Turned.Refused
 unfolding number
 turned_not_13 axis angle v = never_13 _ Turned.Refused (turn_checks axis angle v) refl (turn_refused_lem axis angle v)
-
-pub place_not_13 : (m : Moment) (star : Star) (site : Site) → Never13 (place m star site) Placed.Refused
-unfolding number
-place_not_13 m star site = never_13 _ Placed.Refused (place_checks m star site) refl (place_refused_lem m star site)
 
 pub night_not_13 : (m : Moment) (site : Site) → Never13 (night_of m site) Prepared.Refused
 unfolding number

@@ -16,11 +16,10 @@ use Rattle.rules.specs.declared.FiveArguments.{FiveArguments}
 use Rattle.rules.specs.declared.Nutated.{Nutated}
 use Rattle.rules.specs.declared.Turned.{Turned}
 use Rattle.rules.specs.declared.Prepared.{Prepared}
-use Rattle.rules.specs.declared.Placed.{Placed}
 use Rattle.rules.specs.declared.Listed.{Listed}
 use Rattle.rules.specs.declared.ListedStar.{ListedStar}
 use Rattle.rules.specs.Refusals.{number}
-use Rattle.promises.specs.Contracts.{Tells, so_told}
+use Rattle.promises.specs.OfContracts.{Tells, so_told}
 use Rattle.promises.specs.Demand1.Checks as checks
 use Rattle.promises.specs.Demand1.Thirteen.{Never13, never_13}
 use Rattle.promises.specs.Demand1.Functions as told
@@ -35,7 +34,6 @@ use Rattle.sun.specs.contracts.sun_longitude as sun_longitude_lem
 use Rattle.sun.specs.contracts.perihelion.perihelion as perihelion
 use Rattle.sidereal.specs.contracts.sidereal as sidereal
 use Rattle.turning.specs.contracts.turn as turn
-use Rattle.place.specs.contracts.place as place
 use Rattle.night.specs.contracts.night_of as night_of_lem
 use Rattle.refraction.specs.contracts.observed.observed_altitude as observed_altitude_lem
 use Rattle.list_file.specs.contracts.list_count as list_count
@@ -43,7 +41,6 @@ use Rattle.list_file.specs.contracts.list_star as list_star_lem
 use Rattle.entries_read.specs.contracts.read_list as read_list
 use Rattle.entries_write.specs.contracts.write_list as write_list
 use Rattle.list_from_numbers.specs.contracts.list_write as list_write
-use Rattle.night_list.specs.contracts.night_list as night_list_lem
 
 module _ {M : Type 1} {𝓤 : Ura M} (𝓛 : Logic 𝓤) (mem : Memory → SProp 𝓤) (run : Routine → Fun 𝓤) where
   -- ---- dates and instants
@@ -119,13 +116,6 @@ module _ {M : Type 1} {𝓤 : Ura M} (𝓛 : Logic 𝓤) (mem : Memory → SProp
       (never_13 a Turned.Refused
       (checks.turn_checks passed.1.0 passed.1.1.0 passed.0) refl)
 
-  pub place_not_13 : Tells 𝓤 place.ended (place.clauses 𝓛 mem run)
-      (λ κs passed a x. Never13 a Placed.Refused)
-  unfolding number
-  place_not_13 κs passed g a x = so_told 𝓤 (told.place_tells 𝓛 mem run κs passed g a x)
-      (never_13 a Placed.Refused
-      (checks.place_checks passed.0 passed.1.0 passed.1.1.0) refl)
-
   pub night_of_not_13 : Tells 𝓤 night_of_lem.ended (night_of_lem.clauses 𝓛 mem run)
       (λ κs passed a x. Never13 a Prepared.Refused)
   unfolding number
@@ -174,10 +164,3 @@ module _ {M : Type 1} {𝓤 : Ura M} (𝓛 : Logic 𝓤) (mem : Memory → SProp
   list_write_not_13 κs passed g a x = so_told 𝓤 (told.list_write_tells 𝓛 mem run κs passed g a x)
       (λ h. never_13 a Listed.Refused
       (checks.row_checks passed.0.now passed.1.0.now) refl h.0)
-
-  pub night_list_not_13 : Tells 𝓤 night_list_lem.ended (night_list_lem.clauses 𝓛 mem run)
-      (λ κs passed a x. Never13 a Listed.Refused)
-  unfolding number
-  night_list_not_13 κs passed g a x = so_told 𝓤 (told.night_list_tells 𝓛 mem run κs passed g a x)
-      (λ h. never_13 a Listed.Refused
-      (checks.night_list_checks passed.0 passed.1.0 passed.1.1.0.now) refl h.0)

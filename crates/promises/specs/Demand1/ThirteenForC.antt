@@ -13,20 +13,17 @@ use Rattle.std.proofs.Math.IntN.{nat_abs}
 use Rattle.rules.specs.declared.Weathered.{Weathered}
 use Rattle.rules.specs.Refusals.{number}
 use Rattle.rules.specs.Answers.{weathered_number}
-use Rattle.answers.specs.Answers.{record_out, weathered_out, altitude_out, observed_out}
-use Rattle.answers.specs.Answers.{placed_out, turned_out, counted_out, starred_out, written_out}
-use Rattle.promises.specs.Contracts.{Tells}
+use Rattle.answers.specs.Answers.{record_out, weathered_out, altitude_out}
+use Rattle.answers.specs.Answers.{turned_out, counted_out, starred_out, written_out}
+use Rattle.promises.specs.OfContracts.{Tells}
 use Rattle.promises.specs.Demand1.Turns.{turn_answer}
-use Rattle.promises.specs.Demand1.Places.{place_answer}
-use Rattle.promises.specs.Demand1.Weather.{altitude_answer, observed_place_answer}
+use Rattle.promises.specs.Demand1.Weather.{altitude_answer}
 use Rattle.promises.specs.Demand1.Lists.{count_answer, star_answer}
 use Rattle.promises.specs.Demand1.Writing.{row_answer}
 use Rattle.promises.specs.Demand1.Thirteen.{number_not_13}
-use Rattle.module.specs.contracts.places.turbelicus_place as turbelicus_place
 use Rattle.module.specs.contracts.turns.turbelicus_turn as turbelicus_turn
 use Rattle.module.specs.contracts.probe.turbelicus_weather as turbelicus_weather
 use Rattle.module.specs.contracts.probe.turbelicus_observed_altitude as turbelicus_observed_altitude
-use Rattle.module.specs.contracts.observed.turbelicus_observed_place as turbelicus_observed_place
 use Rattle.module.specs.contracts.lists.turbelicus_list_count as turbelicus_list_count
 use Rattle.module.specs.contracts.lists.turbelicus_list_star as turbelicus_list_star
 use Rattle.module.specs.contracts.lists.turbelicus_list_write as turbelicus_list_write
@@ -38,12 +35,6 @@ weathered_not_13 (Weathered.Now w) e = omega arith
 weathered_not_13 (Weathered.Refused w) e = omega arith
 
 module _ {M : Type 1} {𝓤 : Ura M} (𝓛 : Logic 𝓤) (mem : Memory → SProp 𝓤) (run : Routine → Fun 𝓤) where
-  pub turbelicus_place_not_13 : Tells 𝓤 turbelicus_place.ended (turbelicus_place.clauses 𝓛 mem run)
-      (λ κs passed a x. a.refused ≡ pos 13 → ⊥)
-  unfolding number placed_out
-  turbelicus_place_not_13 κs passed g a x = fact_mono 𝓤 _ _ (λ e h.
-      number_not_13 _ _ 6 _ (place_answer _ _ _) refl (ap nat_abs (sym (ap (λ s. s.refused) e) ∙ h)))
-
   pub turbelicus_turn_not_13 : Tells 𝓤 turbelicus_turn.ended (turbelicus_turn.clauses 𝓛 mem run)
       (λ κs passed a x. a.refused ≡ pos 13 → ⊥)
   unfolding number turned_out
@@ -61,12 +52,6 @@ module _ {M : Type 1} {𝓤 : Ura M} (𝓛 : Logic 𝓤) (mem : Memory → SProp
   unfolding number altitude_out
   turbelicus_observed_altitude_not_13 κs passed g a x = fact_mono 𝓤 _ _ (λ e h.
       number_not_13 _ _ 1 _ (altitude_answer _ _) refl (ap nat_abs (sym (ap (λ s. s.refused) e) ∙ h)))
-
-  pub turbelicus_observed_place_not_13 : Tells 𝓤 turbelicus_observed_place.ended
-      (turbelicus_observed_place.clauses 𝓛 mem run) (λ κs passed a x. a.refused ≡ pos 13 → ⊥)
-  unfolding number observed_out
-  turbelicus_observed_place_not_13 κs passed g a x = fact_mono 𝓤 _ _ (λ e h.
-      number_not_13 _ _ 7 _ (observed_place_answer _ _ _ _) refl (ap nat_abs (sym (ap (λ s. s.refused) e) ∙ h)))
 
   pub turbelicus_list_count_not_13 : Tells 𝓤 turbelicus_list_count.ended
       (turbelicus_list_count.clauses 𝓛 mem run) (λ κs passed a x. a.refused ≡ pos 13 → ⊥)

@@ -14,21 +14,21 @@ use Rattle.rules.specs.declared.Refusal.{Refusal}
 use Rattle.rules.specs.Units.{same, +◌}
 use Rattle.rules.specs.Checks.{first}
 use Rattle.rules.specs.Refusals.{number, given, refused}
-use Rattle.rules.specs.Answers.{or_nought, flag, angle_answer, observed_answer, weathered_number, weathered_record}
+use Rattle.rules.specs.Answers.{or_nought, flag, angle_answer, weathered_number, weathered_record}
 use Rattle.rules.specs.Place.{place_in}
 use Rattle.rules.specs.Weather.{is_pressure, is_temperature, is_accepted, in_range, with_reading, mended, taken_from}
-use Rattle.rules.specs.Refraction.{observed, observed_altitude, observed_place}
+use Rattle.rules.specs.Refraction.{observed, observed_altitude}
 use Rattle.laws.specs.Checks.{FirstGiven, NoneGiven}
 use Rattle.answers.specs.declared.probe.TurbelicusWeathered.{TurbelicusWeathered}
 use Rattle.answers.specs.declared.observed.TurbelicusAltitude.{TurbelicusAltitude}
 use Rattle.answers.specs.declared.observed.TurbelicusObserved.{TurbelicusObserved}
 use Rattle.answers.specs.Given.{taken_by_kind}
-use Rattle.answers.specs.Answers.{record_out, weathered_out, altitude_out, observed_out}
-use Rattle.promises.specs.Demand1.Checks.{record_checks, kind_checks, observed_checks}
+use Rattle.answers.specs.Answers.{record_out, weathered_out, altitude_out}
+use Rattle.promises.specs.Demand1.Checks.{record_checks, kind_checks}
 use Rattle.promises.specs.Demand1.InOrder.{first_map, refused_exactly, answered_exactly}
 use Rattle.promises.specs.Demand1.InOrder.{alike_exactly, alike_answered}
 use Rattle.promises.specs.Demand1.Places.{ready_night}
-use Rattle.promises.specs.Demand1.Weather.{weather_checked, altitude_answer, observed_place_answer}
+use Rattle.promises.specs.Demand1.Weather.{weather_checked, altitude_answer}
 
 -- ---- turbelicus_weather
 
@@ -145,22 +145,3 @@ abbrev pub observed_given_at : Moment → Star → Site → Weather → Turbelic
 observed_given_at m star site w =
     let p = place_in (ready_night m site) star in
     observed_given p (observed (mended w) p.altitude)
-
-turbelicus_observed_place_checked : (m : Moment) (star : Star) (site : Site) (w : Weather)
-    → observed_out (observed_answer (observed_place m star site w))
-    ≡ first (observed_checks m star site w) observed_refused (observed_given_at m star site w)
-unfolding observed_out observed_answer given refused
-turbelicus_observed_place_checked m star site w = ap observed_out (observed_place_answer m star site w)
-    ∙ first_map observed_out (observed_checks m star site w) (λ r. refused r 7) _
-
-pub turbelicus_observed_place_refused : (m : Moment) (star : Star) (site : Site) (w : Weather) (r : Refusal)
-    → (observed_out (observed_answer (observed_place m star site w)) ≡ observed_refused r)
-    ↔ FirstGiven (observed_checks m star site w) r
-turbelicus_observed_place_refused m star site w r = rw (turbelicus_observed_place_checked m star site w)
-    (refused_exactly (λ a. a.refused) observed_refused _ (λ _. refl) refl (observed_checks m star site w) r)
-
-pub turbelicus_observed_place_given : (m : Moment) (star : Star) (site : Site) (w : Weather)
-    → (observed_out (observed_answer (observed_place m star site w)) ≡ observed_given_at m star site w)
-    ↔ NoneGiven (observed_checks m star site w)
-turbelicus_observed_place_given m star site w = rw (turbelicus_observed_place_checked m star site w)
-    (answered_exactly (λ a. a.refused) observed_refused _ (λ _. refl) refl (observed_checks m star site w))

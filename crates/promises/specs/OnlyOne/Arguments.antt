@@ -5,7 +5,7 @@ use prog.Memory.{Memory}
 use prog.Routine.{Routine}
 use types.Logic.{Logic}
 use contract.Monad.{Fun}
-use Rattle.promises.specs.Contracts.{OneAnswer, one}
+use Rattle.promises.specs.OfContracts.{OneAnswer, one}
 use Rattle.arguments.specs.contracts.arguments_of as arguments_of
 use Rattle.arguments.specs.contracts.sun_of as sun_of
 use Rattle.arguments.specs.contracts.arguments as arguments

@@ -5,9 +5,9 @@ use prog.Memory.{Memory}
 use prog.Routine.{Routine}
 use types.Logic.{Logic}
 use contract.Monad.{Fun}
-use Rattle.promises.specs.Contracts.{OneAnswer, one}
-use Rattle.axes.specs.contracts.turn_about as turn_about_lem
+use Rattle.promises.specs.OfContracts.{OneAnswer, one}
+use Rattle.axes.specs.contracts.turn_about as turn_about
 
 module _ {M : Type 1} {𝓤 : Ura M} (𝓛 : Logic 𝓤) (mem : Memory → SProp 𝓤) (run : Routine → Fun 𝓤) where
-  pub turn_about_one : OneAnswer 𝓤 turn_about_lem.ended (turn_about_lem.clauses 𝓛 mem run)
+  pub turn_about_one : OneAnswer 𝓤 turn_about.ended (turn_about.clauses 𝓛 mem run)
   turn_about_one κs passed g r s x y = one 𝓤 r s _

@@ -5,10 +5,10 @@ use prog.Memory.{Memory}
 use prog.Routine.{Routine}
 use types.Logic.{Logic}
 use contract.Monad.{Fun}
-use Rattle.promises.specs.Contracts.{OneAnswerAndContent, one_each, one_content}
+use Rattle.promises.specs.OfContracts.{OneAnswerAndContent, one_each, one_content}
 use Rattle.decimals.specs.contracts.put_digits as put_digits
 use Rattle.decimals.specs.contracts.put as put
-use Rattle.decimals.specs.contracts.put_refused as Put-refused
+use Rattle.decimals.specs.contracts.put_refused as put_refused
 use Rattle.decimals.specs.contracts.put_answer as put_answer
 
 module _ {M : Type 1} {𝓤 : Ura M} (𝓛 : Logic 𝓤) (mem : Memory → SProp 𝓤) (run : Routine → Fun 𝓤) where
@@ -20,7 +20,7 @@ module _ {M : Type 1} {𝓤 : Ura M} (𝓛 : Logic 𝓤) (mem : Memory → SProp
       (λ κs x. x.1.1.0.now)
   put_one κs passed g r s x y = one_each 𝓤 r s _ _ _ _
 
-  pub put_refused_one : OneAnswerAndContent 𝓤 Put-refused.ended (Put-refused.clauses 𝓛 mem run)
+  pub put_refused_one : OneAnswerAndContent 𝓤 put_refused.ended (put_refused.clauses 𝓛 mem run)
       (λ κs x. x.1.0.now)
   put_refused_one κs passed g r s x y = one_each 𝓤 r s _ _ _ _
 

@@ -5,13 +5,13 @@ use prog.Memory.{Memory}
 use prog.Routine.{Routine}
 use types.Logic.{Logic}
 use contract.Monad.{Fun}
-use Rattle.promises.specs.Contracts.{OneAnswer, one}
-use Rattle.entries_read_checks.specs.contracts.read_plan as read_plan_lem
+use Rattle.promises.specs.OfContracts.{OneAnswer, one}
+use Rattle.entries_read_checks.specs.contracts.read_plan as read_plan
 use Rattle.entries_read_checks.specs.contracts.answer_of as answer_of
 use Rattle.entries_read_checks.specs.contracts.entry_at as entry_at
 
 module _ {M : Type 1} {𝓤 : Ura M} (𝓛 : Logic 𝓤) (mem : Memory → SProp 𝓤) (run : Routine → Fun 𝓤) where
-  pub read_plan_one : OneAnswer 𝓤 read_plan_lem.ended (read_plan_lem.clauses 𝓛 mem run)
+  pub read_plan_one : OneAnswer 𝓤 read_plan.ended (read_plan.clauses 𝓛 mem run)
   read_plan_one κs passed g r s x y = one 𝓤 r s _
 
   pub answer_of_one : OneAnswer 𝓤 answer_of.ended (answer_of.clauses 𝓛 mem run)

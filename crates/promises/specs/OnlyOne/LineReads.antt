@@ -5,7 +5,7 @@ use prog.Memory.{Memory}
 use prog.Routine.{Routine}
 use types.Logic.{Logic}
 use contract.Monad.{Fun}
-use Rattle.promises.specs.Contracts.{OneAnswerAndContent, one_each}
+use Rattle.promises.specs.OfContracts.{OneAnswerAndContent, one_each}
 use Rattle.line_reads.specs.contracts.begin as begin
 use Rattle.line_reads.specs.contracts.answer_read as answer_read
 

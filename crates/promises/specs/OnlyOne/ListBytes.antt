@@ -5,7 +5,7 @@ use prog.Memory.{Memory}
 use prog.Routine.{Routine}
 use types.Logic.{Logic}
 use contract.Monad.{Fun}
-use Rattle.promises.specs.Contracts.{OneAnswer, OneAnswerAndContent, one, one_and, one_content}
+use Rattle.promises.specs.OfContracts.{OneAnswer, OneAnswerAndContent, one, one_and, one_content}
 use Rattle.list_bytes.specs.contracts.number_at as number_at
 use Rattle.list_bytes.specs.contracts.two_bytes_at as two_bytes_at
 use Rattle.list_bytes.specs.contracts.put_number as put_number

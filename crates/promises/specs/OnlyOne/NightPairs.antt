@@ -5,11 +5,11 @@ use prog.Memory.{Memory}
 use prog.Routine.{Routine}
 use types.Logic.{Logic}
 use contract.Monad.{Fun}
-use Rattle.promises.specs.Contracts.{OneAnswer, one}
+use Rattle.promises.specs.OfContracts.{OneAnswer, one}
 use Rattle.night_pairs.specs.contracts.opposite_of as opposite_of
 use Rattle.night_pairs.specs.contracts.aberration as aberration
-use Rattle.night_pairs.specs.contracts.aberration_x as aberration_x_lem
-use Rattle.night_pairs.specs.contracts.aberration_y as aberration_y_lem
+use Rattle.night_pairs.specs.contracts.aberration_x as aberration_x
+use Rattle.night_pairs.specs.contracts.aberration_y as aberration_y
 use Rattle.night_pairs.specs.contracts.sidereal_pair as sidereal_pair
 use Rattle.night_pairs.specs.contracts.latitude_pair as latitude_pair
 
@@ -20,10 +20,10 @@ module _ {M : Type 1} {𝓤 : Ura M} (𝓛 : Logic 𝓤) (mem : Memory → SProp
   pub aberration_one : OneAnswer 𝓤 aberration.ended (aberration.clauses 𝓛 mem run)
   aberration_one κs passed g r s x y = one 𝓤 r s _
 
-  pub aberration_x_one : OneAnswer 𝓤 aberration_x_lem.ended (aberration_x_lem.clauses 𝓛 mem run)
+  pub aberration_x_one : OneAnswer 𝓤 aberration_x.ended (aberration_x.clauses 𝓛 mem run)
   aberration_x_one κs passed g r s x y = one 𝓤 r s _
 
-  pub aberration_y_one : OneAnswer 𝓤 aberration_y_lem.ended (aberration_y_lem.clauses 𝓛 mem run)
+  pub aberration_y_one : OneAnswer 𝓤 aberration_y.ended (aberration_y.clauses 𝓛 mem run)
   aberration_y_one κs passed g r s x y = one 𝓤 r s _
 
   pub sidereal_pair_one : OneAnswer 𝓤 sidereal_pair.ended (sidereal_pair.clauses 𝓛 mem run)

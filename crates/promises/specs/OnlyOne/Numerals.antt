@@ -5,12 +5,12 @@ use prog.Memory.{Memory}
 use prog.Routine.{Routine}
 use types.Logic.{Logic}
 use contract.Monad.{Fun}
-use Rattle.promises.specs.Contracts.{OneAnswer, one, one_and}
+use Rattle.promises.specs.OfContracts.{OneAnswer, one, one_and}
 use Rattle.numerals.specs.contracts.of_number as of_number
 use Rattle.numerals.specs.contracts.signed as signed
-use Rattle.numerals.specs.contracts.fields.line_of as Line-of
-use Rattle.numerals.specs.contracts.tenths.of_tenths as of_tenths_lem
-use Rattle.numerals.specs.contracts.tenths.tenths_of as tenths_of_lem
+use Rattle.numerals.specs.contracts.fields.line_of as line_of
+use Rattle.numerals.specs.contracts.tenths.of_tenths as of_tenths
+use Rattle.numerals.specs.contracts.tenths.tenths_of as tenths_of
 
 module _ {M : Type 1} {𝓤 : Ura M} (𝓛 : Logic 𝓤) (mem : Memory → SProp 𝓤) (run : Routine → Fun 𝓤) where
   pub of_number_one : OneAnswer 𝓤 of_number.ended (of_number.clauses 𝓛 mem run)
@@ -19,11 +19,11 @@ module _ {M : Type 1} {𝓤 : Ura M} (𝓛 : Logic 𝓤) (mem : Memory → SProp
   pub signed_one : OneAnswer 𝓤 signed.ended (signed.clauses 𝓛 mem run)
   signed_one κs passed g r s x y = one_and 𝓤 r s _ _ _
 
-  pub line_of_one : OneAnswer 𝓤 Line-of.ended (Line-of.clauses 𝓛 mem run)
+  pub line_of_one : OneAnswer 𝓤 line_of.ended (line_of.clauses 𝓛 mem run)
   line_of_one κs passed g r s x y = one 𝓤 r s _
 
-  pub of_tenths_one : OneAnswer 𝓤 of_tenths_lem.ended (of_tenths_lem.clauses 𝓛 mem run)
+  pub of_tenths_one : OneAnswer 𝓤 of_tenths.ended (of_tenths.clauses 𝓛 mem run)
   of_tenths_one κs passed g r s x y = one 𝓤 r s _
 
-  pub tenths_of_one : OneAnswer 𝓤 tenths_of_lem.ended (tenths_of_lem.clauses 𝓛 mem run)
+  pub tenths_of_one : OneAnswer 𝓤 tenths_of.ended (tenths_of.clauses 𝓛 mem run)
   tenths_of_one κs passed g r s x y = one 𝓤 r s _

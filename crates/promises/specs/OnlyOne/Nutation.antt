@@ -5,7 +5,7 @@ use prog.Memory.{Memory}
 use prog.Routine.{Routine}
 use types.Logic.{Logic}
 use contract.Monad.{Fun}
-use Rattle.promises.specs.Contracts.{OneAnswer, one}
+use Rattle.promises.specs.OfContracts.{OneAnswer, one}
 use Rattle.nutation.specs.contracts.nutation_of as nutation_of
 use Rattle.nutation.specs.contracts.nutation as nutation
 

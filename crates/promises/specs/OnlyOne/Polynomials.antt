@@ -5,11 +5,11 @@ use prog.Memory.{Memory}
 use prog.Routine.{Routine}
 use types.Logic.{Logic}
 use contract.Monad.{Fun}
-use Rattle.promises.specs.Contracts.{OneAnswer, one}
+use Rattle.promises.specs.OfContracts.{OneAnswer, one}
 use Rattle.polynomials.specs.contracts.linear as linear
 use Rattle.polynomials.specs.contracts.quadratic as quadratic
 use Rattle.polynomials.specs.contracts.cubic as cubic
-use Rattle.polynomials.specs.contracts.instant_refused as instant_refused_lem
+use Rattle.polynomials.specs.contracts.instant_refused as instant_refused
 
 module _ {M : Type 1} {𝓤 : Ura M} (𝓛 : Logic 𝓤) (mem : Memory → SProp 𝓤) (run : Routine → Fun 𝓤) where
   pub linear_one : OneAnswer 𝓤 linear.ended (linear.clauses 𝓛 mem run)
@@ -21,5 +21,5 @@ module _ {M : Type 1} {𝓤 : Ura M} (𝓛 : Logic 𝓤) (mem : Memory → SProp
   pub cubic_one : OneAnswer 𝓤 cubic.ended (cubic.clauses 𝓛 mem run)
   cubic_one κs passed g r s x y = one 𝓤 r s _
 
-  pub instant_refused_one : OneAnswer 𝓤 instant_refused_lem.ended (instant_refused_lem.clauses 𝓛 mem run)
+  pub instant_refused_one : OneAnswer 𝓤 instant_refused.ended (instant_refused.clauses 𝓛 mem run)
   instant_refused_one κs passed g r s x y = one 𝓤 r s _

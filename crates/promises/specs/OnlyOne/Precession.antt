@@ -5,7 +5,7 @@ use prog.Memory.{Memory}
 use prog.Routine.{Routine}
 use types.Logic.{Logic}
 use contract.Monad.{Fun}
-use Rattle.promises.specs.Contracts.{OneAnswer, one}
+use Rattle.promises.specs.OfContracts.{OneAnswer, one}
 use Rattle.precession.specs.contracts.precession_of as precession_of
 use Rattle.precession.specs.contracts.precession as precession
 use Rattle.precession.specs.contracts.obliquity_of as obliquity_of

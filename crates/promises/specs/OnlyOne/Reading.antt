@@ -5,7 +5,7 @@ use prog.Memory.{Memory}
 use prog.Routine.{Routine}
 use types.Logic.{Logic}
 use contract.Monad.{Fun}
-use Rattle.promises.specs.Contracts.{OneAnswer, one}
+use Rattle.promises.specs.OfContracts.{OneAnswer, one}
 use Rattle.reading.specs.contracts.reading as reading
 use Rattle.reading.specs.contracts.height as height
 

@@ -5,7 +5,7 @@ use prog.Memory.{Memory}
 use prog.Routine.{Routine}
 use types.Logic.{Logic}
 use contract.Monad.{Fun}
-use Rattle.promises.specs.Contracts.{OneAnswer, one}
+use Rattle.promises.specs.OfContracts.{OneAnswer, one}
 use Rattle.roots.specs.contracts.whole_root as whole_root
 use Rattle.roots.specs.contracts.length_root as length_root
 use Rattle.roots.specs.contracts.near_root as near_root

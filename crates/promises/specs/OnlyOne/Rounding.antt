@@ -5,7 +5,7 @@ use prog.Memory.{Memory}
 use prog.Routine.{Routine}
 use types.Logic.{Logic}
 use contract.Monad.{Fun}
-use Rattle.promises.specs.Contracts.{OneAnswer, one}
+use Rattle.promises.specs.OfContracts.{OneAnswer, one}
 use Rattle.rounding.specs.contracts.rnd_quotient as rnd_quotient
 use Rattle.rounding.specs.contracts.rnd_short_quotient as rnd_short_quotient
 use Rattle.rounding.specs.contracts.rnd_by_unit as rnd_by_unit

@@ -5,7 +5,7 @@ use prog.Memory.{Memory}
 use prog.Routine.{Routine}
 use types.Logic.{Logic}
 use contract.Monad.{Fun}
-use Rattle.promises.specs.Contracts.{OneAnswerAndContent, one_each}
+use Rattle.promises.specs.OfContracts.{OneAnswerAndContent, one_each}
 use Rattle.sexagesimal.specs.contracts.put_hours as put_hours
 use Rattle.sexagesimal.specs.contracts.put_bearing as put_bearing
 use Rattle.sexagesimal.specs.contracts.put_elevation as put_elevation

@@ -5,7 +5,7 @@ use prog.Memory.{Memory}
 use prog.Routine.{Routine}
 use types.Logic.{Logic}
 use contract.Monad.{Fun}
-use Rattle.promises.specs.Contracts.{OneAnswer, one}
+use Rattle.promises.specs.OfContracts.{OneAnswer, one}
 use Rattle.steps.specs.contracts.apparent as apparent
 use Rattle.steps.specs.contracts.overhead as overhead
 use Rattle.steps.specs.contracts.readings as readings

@@ -5,10 +5,10 @@ use prog.Memory.{Memory}
 use prog.Routine.{Routine}
 use types.Logic.{Logic}
 use contract.Monad.{Fun}
-use Rattle.promises.specs.Contracts.{OneAnswer, one}
+use Rattle.promises.specs.OfContracts.{OneAnswer, one}
 use Rattle.sun.specs.contracts.sun_longitude_of as sun_longitude_of
 use Rattle.sun.specs.contracts.mean_longitude_of as mean_longitude_of
-use Rattle.sun.specs.contracts.sun_longitude as sun_longitude_lem
+use Rattle.sun.specs.contracts.sun_longitude as sun_longitude
 use Rattle.sun.specs.contracts.perihelion.perihelion_of as perihelion_of
 use Rattle.sun.specs.contracts.perihelion.perihelion as perihelion
 
@@ -19,7 +19,7 @@ module _ {M : Type 1} {𝓤 : Ura M} (𝓛 : Logic 𝓤) (mem : Memory → SProp
   pub mean_longitude_of_one : OneAnswer 𝓤 mean_longitude_of.ended (mean_longitude_of.clauses 𝓛 mem run)
   mean_longitude_of_one κs passed g r s x y = one 𝓤 r s _
 
-  pub sun_longitude_one : OneAnswer 𝓤 sun_longitude_lem.ended (sun_longitude_lem.clauses 𝓛 mem run)
+  pub sun_longitude_one : OneAnswer 𝓤 sun_longitude.ended (sun_longitude.clauses 𝓛 mem run)
   sun_longitude_one κs passed g r s x y = one 𝓤 r s _
 
   pub perihelion_of_one : OneAnswer 𝓤 perihelion_of.ended (perihelion_of.clauses 𝓛 mem run)

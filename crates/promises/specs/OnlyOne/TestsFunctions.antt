@@ -5,8 +5,8 @@ use prog.Memory.{Memory}
 use prog.Routine.{Routine}
 use types.Logic.{Logic}
 use contract.Monad.{Fun}
-use Rattle.promises.specs.Contracts.{OneAnswer, OneAnswerAndContent, one, one_each}
-use Rattle.tests_functions.specs.contracts.aberration.tests_aberration as tests_aberration_lem
+use Rattle.promises.specs.OfContracts.{OneAnswer, OneAnswerAndContent, one, one_each}
+use Rattle.tests_functions.specs.contracts.aberration.tests_aberration as tests_aberration
 use Rattle.tests_functions.specs.contracts.angle_sets.tests_precession as tests_precession
 use Rattle.tests_functions.specs.contracts.angle_sets.tests_arguments as tests_arguments
 use Rattle.tests_functions.specs.contracts.angle_sets.tests_nutation as tests_nutation
@@ -19,15 +19,15 @@ use Rattle.tests_functions.specs.contracts.angles.tests_sidereal_polynomial as t
 use Rattle.tests_functions.specs.contracts.days.tests_day_of as tests_day_of
 use Rattle.tests_functions.specs.contracts.days.tests_date_of as tests_date_of
 use Rattle.tests_functions.specs.contracts.lines.tests_times_line as tests_times_line
-use Rattle.tests_functions.specs.contracts.moments.tests_instants as tests_instants_lem
+use Rattle.tests_functions.specs.contracts.moments.tests_instants as tests_instants
 use Rattle.tests_functions.specs.contracts.numbers.tests_rnd_quotient as tests_rnd_quotient
 use Rattle.tests_functions.specs.contracts.numbers.tests_whole_root as tests_whole_root
 use Rattle.tests_functions.specs.contracts.numbers.tests_on_circle as tests_on_circle
 use Rattle.tests_functions.specs.contracts.numbers.tests_rnd_product_quotient as tests_rnd_product_quotient
-use Rattle.tests_functions.specs.contracts.pairs.tests_pair as tests_pair_lem
+use Rattle.tests_functions.specs.contracts.pairs.tests_pair as tests_pair
 
 module _ {M : Type 1} {𝓤 : Ura M} (𝓛 : Logic 𝓤) (mem : Memory → SProp 𝓤) (run : Routine → Fun 𝓤) where
-  pub tests_aberration_one : OneAnswer 𝓤 tests_aberration_lem.ended (tests_aberration_lem.clauses 𝓛 mem run)
+  pub tests_aberration_one : OneAnswer 𝓤 tests_aberration.ended (tests_aberration.clauses 𝓛 mem run)
   tests_aberration_one κs passed g r s x y = one 𝓤 r s _
 
   pub tests_precession_one : OneAnswer 𝓤 tests_precession.ended (tests_precession.clauses 𝓛 mem run)
@@ -68,7 +68,7 @@ module _ {M : Type 1} {𝓤 : Ura M} (𝓛 : Logic 𝓤) (mem : Memory → SProp
       (λ κs x. x.1.0.now)
   tests_times_line_one κs passed g r s x y = one_each 𝓤 r s _ _ _ _
 
-  pub tests_instants_one : OneAnswer 𝓤 tests_instants_lem.ended (tests_instants_lem.clauses 𝓛 mem run)
+  pub tests_instants_one : OneAnswer 𝓤 tests_instants.ended (tests_instants.clauses 𝓛 mem run)
   tests_instants_one κs passed g r s x y = one 𝓤 r s _
 
   pub tests_rnd_quotient_one : OneAnswer 𝓤 tests_rnd_quotient.ended (tests_rnd_quotient.clauses 𝓛 mem run)
@@ -84,5 +84,5 @@ module _ {M : Type 1} {𝓤 : Ura M} (𝓛 : Logic 𝓤) (mem : Memory → SProp
       (tests_rnd_product_quotient.clauses 𝓛 mem run)
   tests_rnd_product_quotient_one κs passed g r s x y = one 𝓤 r s _
 
-  pub tests_pair_one : OneAnswer 𝓤 tests_pair_lem.ended (tests_pair_lem.clauses 𝓛 mem run)
+  pub tests_pair_one : OneAnswer 𝓤 tests_pair.ended (tests_pair.clauses 𝓛 mem run)
   tests_pair_one κs passed g r s x y = one 𝓤 r s _

@@ -5,7 +5,7 @@ use prog.Memory.{Memory}
 use prog.Routine.{Routine}
 use types.Logic.{Logic}
 use contract.Monad.{Fun}
-use Rattle.promises.specs.Contracts.{OneAnswer, one}
+use Rattle.promises.specs.OfContracts.{OneAnswer, one}
 use Rattle.weather.specs.contracts.tenths as tenths
 use Rattle.weather.specs.contracts.kept.recorded as recorded
 use Rattle.weather.specs.contracts.kept.take_from as take_from

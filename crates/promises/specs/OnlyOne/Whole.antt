@@ -5,11 +5,11 @@ use prog.Memory.{Memory}
 use prog.Routine.{Routine}
 use types.Logic.{Logic}
 use contract.Monad.{Fun}
-use Rattle.promises.specs.Contracts.{OneAnswer, one}
+use Rattle.promises.specs.OfContracts.{OneAnswer, one}
 use Rattle.whole.specs.contracts.modulo_of as modulo_of
 use Rattle.whole.specs.contracts.on_circle as on_circle
 use Rattle.whole.specs.contracts.is_between as is_between
-use Rattle.whole.specs.contracts.size_of as type_size
+use Rattle.whole.specs.contracts.size_of as size_of
 
 module _ {M : Type 1} {𝓤 : Ura M} (𝓛 : Logic 𝓤) (mem : Memory → SProp 𝓤) (run : Routine → Fun 𝓤) where
   pub modulo_of_one : OneAnswer 𝓤 modulo_of.ended (modulo_of.clauses 𝓛 mem run)
@@ -21,5 +21,5 @@ module _ {M : Type 1} {𝓤 : Ura M} (𝓛 : Logic 𝓤) (mem : Memory → SProp
   pub is_between_one : OneAnswer 𝓤 is_between.ended (is_between.clauses 𝓛 mem run)
   is_between_one κs passed g r s x y = one 𝓤 r s _
 
-  pub size_of_one : OneAnswer 𝓤 type_size.ended (type_size.clauses 𝓛 mem run)
+  pub size_of_one : OneAnswer 𝓤 size_of.ended (size_of.clauses 𝓛 mem run)
   size_of_one κs passed g r s x y = one 𝓤 r s _

@@ -15,7 +15,8 @@ use Rattle.rules.specs.Calendar.{date_of}
 use Rattle.rules.specs.ListReading.{fresh_entry}
 use Rattle.rules.specs.ListWriting.{stars_of}
 use Rattle.laws.specs.Bytes.{Bytes}
-use Rattle.promises.specs.Contracts.{together}
+use Rattle.laws.specs.Angles as angles
+use Rattle.promises.specs.OfContracts.{together}
 use Rattle.promises.specs.Calls.{Call, told}
 use Rattle.promises.specs.RoundTrips as rules
 use Rattle.entries_read.specs.contracts.read_list as read_list
@@ -110,5 +111,5 @@ module _ {M : Type 1} {𝓤 : Ura M} (𝓛 : Logic 𝓤) (mem : Memory → SProp
       → ent 𝓤 (conj 𝓤 (pair_told one) (pair_told opposite))
       (fact 𝓤 (opposite.answer ≡ record { cosine = one.answer.cosine; sine = neg_ℤ one.answer.sine }))
   pair_of_the_opposite one opposite e = together 𝓤 (id⊢ 𝓤 _) (id⊢ 𝓤 _) (λ p q.
-      q ∙ rw e (rules.opposite_angle one.passed.0)
+      q ∙ rw e (angles.pair_opposite one.passed.0)
       ∙ ap (λ c. record { cosine = c.cosine; sine = neg_ℤ c.sine }) (sym p))

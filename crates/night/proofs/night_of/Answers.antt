@@ -1,0 +1,28 @@
+-- `night::night_of` meets its contract: the instants of a date are within a century.
+use Rattle.std.proofs.Common.{◌≡◌, sym, ap, ◌∙◌}
+use Rattle.rules.specs.declared.Instants.{Instants}
+use Rattle.rules.specs.Dates.{instants}
+use Rattle.rules.specs.Night.{night_of, night_at}
+use Rattle.laws.specs.Instants.{ut_within, tt_within}
+use Rattle.night.proofs.night_of.Goals as goal
+
+instants_are : (c : goal.In-At) → instants c.args.moment ≡ Instants.At c.in-At.ut c.in-At.tt
+instants_are c = sym c.instants-instants.ensures ∙ c.in-At.is
+
+pub prepared-requires-clause-in_range : goal.prepared-requires-clause-in_range
+prepared-requires-clause-in_range c = ut_within c.args.moment c.in-At.ut c.in-At.tt (instants_are c)
+
+pub prepared-requires-clause-in_range_2 : goal.prepared-requires-clause-in_range_2
+prepared-requires-clause-in_range_2 c = tt_within c.args.moment c.in-At.ut c.in-At.tt (instants_are c)
+
+pub returns-in-At : goal.returns-in-At
+unfolding night_of
+returns-in-At c =
+    c.prepared.ensures ∙ ap (λ i. night_at i c.args.site) (sym c.in-At.is ∙ c.instants-instants.ensures)
+
+-- ---- a refusal
+
+pub returns-in-Refused : goal.returns-in-Refused
+unfolding night_of night_at
+returns-in-Refused c =
+    ap (λ i. night_at i c.args.site) (sym c.in-Refused.is ∙ c.instants-instants.ensures)

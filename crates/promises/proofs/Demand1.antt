@@ -1,0 +1,10 @@
+pub mod Places
+pub mod Weather
+pub mod NightList
+pub mod Boundary
+pub mod WeatherBoundary
+pub mod Functions
+pub mod FunctionsForC
+pub mod Thirteen
+pub mod ThirteenByContract
+pub mod ThirteenForC
