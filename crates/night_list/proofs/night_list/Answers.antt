@@ -1,7 +1,8 @@
 use Rattle.std.proofs.Common.{◌≡◌, ◌∙◌, ap, refl, length, drop, arith, ◌++◌, ◌≤◌, ◌<◌, nat_abs, pos, w64, to_z, of_z}
 use Rattle.rules.specs.NightList.{marked}
 use Rattle.night_list_checks.specs.Plans.{PreparedFits, answer_of}
-use Rattle.words.specs.Fits.{held64}
+use borrow.Author.Rules.{sfits_of}
+use mir.Facts.{to_z-of_z}
 use Rattle.night_list.proofs.Lists.{marked_none}
 use Rattle.night_list.specs.Fits.{night_of_fits}
 use Rattle.night_list.proofs.Planned.{worked_all, worked_stored, worked_tally, few_marked, night_within, night_few}
@@ -61,7 +62,7 @@ loop-i-preserved c =
       (
         worked_stored plan.night c.loop-i.i a.entries.now less _ c.loop-i.entries c.loop-i.invariant.1.0
             c.entry_after-entry.result c.entry_after-entry.ensures,
-        held64 c.tally-n.result c.tally-n.type_inv
+        to_z-of_z {w = w64} (sfits_of {w = w64} {z = c.tally-n.result} c.tally-n.type_inv)
             ∙ worked_tally plan.night c.loop-i.i a.entries.now less _ c.loop-i.entries c.loop-i.invariant.1.0
             c.entry_after-entry.result c.entry_after-entry.ensures _ c.tally-n.result c.loop-i.invariant.1.1
             c.tally-n.ensures,
