@@ -1,11 +1,11 @@
 -- What the loop of `write_list` needs: records put one by one are the file's, and what the plan says of lengths.
 use mathlib.Core.Path.{◌≡◌, refl, sym, ◌∙◌, ap, subst}
 use mathlib.Core.Bool.{Bool, true, false, ◌||◌}
-use mathlib.Core.List.{List, [], ◌∷◌, ◌++◌, append_assoc}
+use mathlib.Core.List.{List, [], ◌∷◌, ◌++◌}
 use Prim.Native.Nat.{ℕ, ◌+◌, ◌*◌, ◌<◌, ◌≤◌}
 use native.Mathlib.Omega.{arith}
 use native.Mathlib.Nat.{lt_irrefl}
-use lib.ListN.{length, get_or, take, drop, length-append, take-append-drop}
+use lib.ListN.{length, get_or, take}
 use lib.Seq.{length-take-le, take-length}
 use Rattle.std.proofs.Math.Seq.{take-suc}
 use Rattle.std.proofs.Common.{suc}
@@ -22,7 +22,6 @@ use Rattle.entries_write_checks.specs.Plans.{plan_of}
 use Rattle.entries_write_checks.specs.Plans.{write_plan, Ready}
 use Rattle.list_bytes.specs.Puts.{put, put_length, put_none, put_put}
 use Rattle.list_records.specs.Records.{file_put}
-use Rattle.lent.specs.Lists.{snoc_length}
 
 -- one of the entries has a star that is refused
 abbrev pub refused_all : List Entry → Bool

@@ -10,7 +10,7 @@ use base.Logic.{SProp, ent, sep, ex, emp, via, id⊢, mono_r, fst∗, snd∗}
 use base.Fml.{Lft, Share, GName, Fml, ftrue, feq, fsep, flft, fobs, fauth, fobor}
 use contract.Monad.{fact}
 use types.Logic.{Logic, sem}
-use types.Kit.{Item, ‵, raw, ◌⊛◌, mean, ⋆, ◌$◌, ◌∵◌, !, qed, move, keep, use0, use1, drop, split, join, fsplit}
+use types.Kit.{Item, ‵, raw, ◌⊛◌, mean, ⋆, ◌$◌, ◌∵◌, !, qed, move, keep, use0, use1, split, join, fsplit}
 use types.Kit.{fjoin, frame, updating, now as at_once, show, done}
 use denote.RattleType.{RattleType, RowLaws, Denots, Valss, owns}
 use denote.Shadow.{pure_l, pure_i}

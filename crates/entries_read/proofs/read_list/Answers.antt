@@ -1,6 +1,5 @@
-use Rattle.std.proofs.Common.{rules, ◌≡◌, ap, sym, ◌∙◌, arith, ◌≤◌, ◌++◌, drop, set, refl, length, ◌<◌}
-use Rattle.rules.specs.ListFile.{record_length, record_at, star_in, stars_in}
-use Rattle.rules.specs.ListReading.{fresh_entry}
+use Rattle.std.proofs.Common.{◌≡◌, ap, ◌∙◌, arith, ◌++◌, drop, set, refl}
+use Rattle.rules.specs.ListFile.{stars_in}
 use Rattle.entries_read.proofs.Reading.{read_entries, read_stored, read_within, read_few, read_long, read_after, read_answer}
 use Rattle.entries_read.proofs.read_list.Goals as goal
 

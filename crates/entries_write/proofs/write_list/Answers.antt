@@ -1,7 +1,6 @@
-use Rattle.std.proofs.Common.{◌≡◌, ◌∙◌, ap, sym, refl, length, take, arith, ◌≤◌, ◌<◌, Bool}
-use Rattle.rules.specs.ListFile.{record_of, record_at}
+use Rattle.std.proofs.Common.{◌≡◌, ◌∙◌, ap, sym, refl, length, take, arith, Bool}
 use Rattle.entries_write_checks.specs.Plans.{write_plan}
-use Rattle.entries_write.proofs.Writing.{refused_all, put_all, put_next, write_within, write_long, write_few}
+use Rattle.entries_write.proofs.Writing.{put_all, put_next, write_within, write_long, write_few}
 use Rattle.entries_write.proofs.Writing.{write_ready, write_answer, write_after}
 use Rattle.entries_write.proofs.write_list.Goals as goal
 

@@ -9,18 +9,11 @@ use mir.Facts.{to_z-of_z}
 use Rattle.words.specs.Fits.{fits32, fits64, held64}
 use Rattle.rules.specs.declared.Direction.{Direction}
 use Rattle.rules.specs.Place.{moved, directed, precessed, aberrated, nutated, apparent}
-<<<<<<< HEAD:crates/steps/proofs/apparent/Answers.antt
 use Rattle.laws.specs.Place.{StarRanges, star_ranges, moved_le}
 use Rattle.laws.proofs.Place.{directed_accepted, precessed_accepted}
 use Rattle.laws.proofs.Place.{aberrated_accepted}
 use Rattle.steps.proofs.apparent.Goals as goal
 use Rattle.steps.proofs.apparent.Lts as lts
-=======
-use Rattle.laws.specs.Place.{StarRanges, star_ranges, moved_le}
-use Rattle.laws.proofs.Place.{directed_accepted, precessed_accepted}
-use Rattle.laws.proofs.Place.{aberrated_accepted}
-use Rattle.steps.proofs.apparent.Statement.{statement}
->>>>>>> 7238a343cc37c789dd8a89dc71ea453b41e4f654:crates/steps/proofs/apparent/Proof.antt
 use Rattle.steps.proofs.apparent.Tie as tie
 use Rattle.steps.proofs.apparent.Reads as reads
 

@@ -3,14 +3,8 @@ use mathlib.Core.Path.{ap, ◌∙◌}
 use Rattle.rules.specs.Units.{+◌}
 use Rattle.rules.specs.Turning.{turn_by}
 use Rattle.rules.specs.Place.{overhead}
-<<<<<<< HEAD:crates/steps/proofs/overhead/Answers.antt
 use Rattle.laws.proofs.Turning.{turn_by_accepted}
 use Rattle.steps.proofs.overhead.Goals as goal
-=======
-use Rattle.laws.proofs.Turning.{turn_by_accepted}
-use Rattle.steps.proofs.overhead.Statement.{statement}
-use Rattle.steps.proofs.overhead.Tie as tie
->>>>>>> 7238a343cc37c789dd8a89dc71ea453b41e4f654:crates/steps/proofs/overhead/Proof.antt
 
 pub returns : goal.returns
 unfolding overhead

@@ -5,14 +5,9 @@ use Rattle.rules.specs.Units.{+◌}
 use Rattle.rules.specs.Length.{squares}
 use Rattle.rules.specs.Turning.{Accepted, turn_by}
 use Rattle.rules.specs.Place.{precessed}
-<<<<<<< HEAD:crates/steps/proofs/precessed/Answers.antt
 use Rattle.laws.proofs.Turning.{turn_by_accepted}
 use Rattle.steps.proofs.precessed.Goals as goal
 use Rattle.steps.proofs.precessed.Lts as lts
-=======
-use Rattle.laws.proofs.Turning.{turn_by_accepted}
-use Rattle.steps.proofs.precessed.Statement.{statement}
->>>>>>> 7238a343cc37c789dd8a89dc71ea453b41e4f654:crates/steps/proofs/precessed/Proof.antt
 use Rattle.steps.proofs.precessed.Tie as tie
 use Rattle.steps.proofs.precessed.Reads as reads
 

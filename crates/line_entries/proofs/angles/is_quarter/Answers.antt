@@ -10,29 +10,30 @@ use mir.Syntax.{w64}
 use mir.Val.{to_z, of_z}
 use mir.Facts.{to_z-of_z}
 use Rattle.rules.specs.Units.{quarter}
-use Rattle.line_entries.proofs.angles.is_quarter.Statement.{statement}
-use Rattle.line_entries.proofs.angles.is_quarter.Tie as tie
+use Rattle.line_entries.proofs.angles.is_quarter.Goals as goal
+use Rattle.line_entries.proofs.angles.is_quarter.Lts as lts
+use Rattle.line_entries.proofs.angles.is_quarter.Reads as reads
 
 abbrev size_is_quarter : ℤ → Bool
 size_is_quarter z = eqb (nat_abs z) quarter
 
-held : (s : tie.Start) → to_z w64 (of_z w64 s.args.height) ≡ s.args.height
+held : (s : lts.Start reads.Pre reads.Post) → to_z w64 (of_z w64 s.args.height) ≡ s.args.height
 held s = to_z-of_z s.ranges.height
 
-returns : tie.Need-returns
-returns c =
-    let e : c.before.args.height ≡ pos quarter = sym (held c.before) ∙ ap (to_z w64) c.if1.true in
-    rw c.if1.true (ap size_is_quarter (sym e))
+pub returns-then-height-eq-QUARTER : goal.returns-then-height-eq-QUARTER
+returns-then-height-eq-QUARTER c =
+    let e : c.args.height ≡ pos quarter = sym (held c.before) ∙ ap (to_z w64) c.if-height-eq-QUARTER.true in
+    rw c.if-height-eq-QUARTER.true (ap size_is_quarter (sym e))
 
 -- a number of that size, up or down
 up_or_down : (z : ℤ) → nat_abs z ≡ quarter → (z ≡ pos quarter) ⊎ (z ≡ neg_ℤ (pos quarter))
 up_or_down (pos n) e = inl (ap pos e)
 up_or_down (negsuc n) e = inr (ap negsuc (omega (arith, e)))
 
-returns_2 : tie.Need-returns-2
-returns_2 c = by (eqb (of_z w64 h) (of_z w64 down)) refl
+pub returns-else-height-eq-QUARTER : goal.returns-else-height-eq-QUARTER
+returns-else-height-eq-QUARTER c = by (eqb (of_z w64 h) (of_z w64 down)) refl
   where
-    s : tie.Start
+    s : lts.Start reads.Pre reads.Post
     s = c.before
 
     h : ℤ
@@ -47,9 +48,6 @@ returns_2 c = by (eqb (of_z w64 h) (of_z w64 down)) refl
         k ∙ ap size_is_quarter (sym e)
     by false k =
         k ∙ sym (ne_eqb (nat_abs h) quarter (λ z. ⊎_elim
-        (λ up. c.if1.false (ap (of_z w64) up))
+        (λ up. c.if-height-eq-QUARTER.false (ap (of_z w64) up))
         (λ low. eqb-false (of_z w64 h) (of_z w64 down) k (ap (of_z w64) low))
         (up_or_down h z)))
-
-pub is_quarter_spec : {M : Type 1} → statement M
-is_quarter_spec = tie.close (tie.spec returns returns_2)
