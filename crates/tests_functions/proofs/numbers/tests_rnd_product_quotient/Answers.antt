@@ -12,13 +12,14 @@ use mir.Val.{to_z, of_z}
 use mir.Facts.{to_z-of_z, and_yes}
 use Rattle.integers.specs.Quotient.{size_pos}
 use Rattle.words.specs.Fits.{held64}
-use Rattle.words.specs.Tests.{not_taken, not_left}
 use Rattle.rules.specs.Units.{+◌, between, within}
 use Rattle.rules.specs.Rounding.{rnd}
 use Rattle.laws.specs.Units.{positive, positive_le, within_le}
 use Rattle.laws.specs.Product.{ProductFits}
 use Rattle.tests_functions.specs.Numbers.{tried, product_tried, rnd_product_quotient_tried}
-use Rattle.tests_functions.proofs.numbers.tests_rnd_product_quotient.Statement.{statement}
+use Rattle.tests_functions.proofs.numbers.tests_rnd_product_quotient.Goals as goal
+use Rattle.tests_functions.proofs.numbers.tests_rnd_product_quotient.Lts as lts
+use Rattle.tests_functions.proofs.numbers.tests_rnd_product_quotient.Reads as reads
 use Rattle.tests_functions.proofs.numbers.tests_rnd_product_quotient.Tie as tie
 
 -- ---- what the test says
@@ -55,40 +56,36 @@ fits a b d e =
 
 -- ---- the needs
 
-product_fits_requires : tie.Need-product-fits-requires
-product_fits_requires c κs = search rules
+pub product_fits-requires : goal.product_fits-requires
+product_fits-requires c = search rules
 
-tested : (c : tie.After-product-fits)
-    → c.product_fits.result ≡ product_tried c.before.args.a c.before.args.b c.before.args.d
+tested : (c : lts.After-product_fits tie.the-claims reads.Pre reads.Post)
+    → c.product_fits.result ≡ product_tried c.args.a c.args.b c.args.d
 tested c =
-    rw (to_z-of_z c.before.ranges.a, to_z-of_z c.before.ranges.b, to_z-of_z c.before.ranges.d)
+    rw (to_z-of_z c.ranges.a, to_z-of_z c.ranges.b, to_z-of_z c.ranges.d)
     at c.product_fits.ensures
 
-returns : tie.Need-returns
+pub returns-then-not-product_fits : goal.returns-then-not-product_fits
 unfolding rnd_product_quotient_tried tried
-returns c = let out = sym (tested c.before) ∙ not_taken _ c.if1.true in simp out
+returns-then-not-product_fits c = let out = sym (tested c.before) ∙ c.if-not-product_fits.true in simp out
 
-passed : (c : tie.Else1)
-    → product_tried c.before.before.args.a c.before.before.args.b c.before.before.args.d ≡ true
-passed c = sym (tested c.before) ∙ not_left _ c.if1.false
+passed : (c : goal.Else-not-product_fits)
+    → product_tried c.args.a c.args.b c.args.d ≡ true
+passed c = sym (tested c.before) ∙ c.if-not-product_fits.false
 
-rnd_product_quotient_requires : tie.Need-rnd-product-quotient-requires
-rnd_product_quotient_requires c κs =
+pub rnd_product_quotient-quotient-requires : goal.rnd_product_quotient-quotient-requires
+rnd_product_quotient-quotient-requires c =
     let start = c.before.before in
     rw (to_z-of_z start.ranges.a, to_z-of_z start.ranges.b, to_z-of_z start.ranges.d)
     (fits start.args.a start.args.b start.args.d (passed c))
 
-returns_2 : tie.Need-returns-2
+pub returns : goal.returns
 unfolding rnd_product_quotient_tried tried
-returns_2 c =
+returns c =
     let start = c.before.before.before in
-    let is : to_z w64 (of_z w64 c.rnd_product_quotient.result)
+    let is : to_z w64 (of_z w64 c.rnd_product_quotient-quotient.result)
     ≡ rnd (start.args.a *ℤ start.args.b) (nat_abs start.args.d) =
-    held64 c.rnd_product_quotient.result c.rnd_product_quotient.type-inv
+    held64 c.rnd_product_quotient-quotient.result c.rnd_product_quotient-quotient.type_inv
     ∙ rw (to_z-of_z start.ranges.a, to_z-of_z start.ranges.b, to_z-of_z start.ranges.d)
-    at c.rnd_product_quotient.ensures in
+    at c.rnd_product_quotient-quotient.ensures in
     simp (passed c.before, is)
-
-pub tests_rnd_product_quotient_spec : {M : Type 1} → statement M
-tests_rnd_product_quotient_spec =
-    tie.close (tie.spec product_fits_requires returns rnd_product_quotient_requires returns_2)

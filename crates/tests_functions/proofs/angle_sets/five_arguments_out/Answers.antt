@@ -7,33 +7,23 @@ use Rattle.rules.specs.Refusals.{given, refused}
 use Rattle.rules.specs.Answers.{five_arguments_answer}
 use Rattle.words.specs.Fits.{held64}
 use Rattle.tests_functions.specs.Angles.{tests_five_arguments}
-use Rattle.tests_functions.proofs.angle_sets.five_arguments_out.Statement.{statement}
-use Rattle.tests_functions.proofs.angle_sets.five_arguments_out.Tie as tie
+use Rattle.tests_functions.proofs.angle_sets.five_arguments_out.Goals as goal
 
-enum_known_a : tie.Need-enum-known-a
-enum_known_a c = search rules
+pub number-requires : goal.number-requires
+number-requires c = search rules
 
-enum_known_a_2 : tie.Need-enum-known-a-2
-enum_known_a_2 c = search rules
-
-number_requires : tie.Need-number-requires
-number_requires c κs = search rules
-
-returns : tie.Need-returns
+pub returns-in-By : goal.returns-in-By
 unfolding tests_five_arguments five_arguments_answer given
-returns c =
-    let v = c.before.before.a.given.0.0 in
+returns-in-By c =
+    let v = c.in-By.p in
     let moon_held : to_z w64 (of_z w64 v.moon) ≡ v.moon = search rules in
     let sun_held : to_z w64 (of_z w64 v.sun) ≡ v.sun = search rules in
     let latitude_held : to_z w64 (of_z w64 v.latitude) ≡ v.latitude = search rules in
     let elongation_held : to_z w64 (of_z w64 v.elongation) ≡ v.elongation = search rules in
     let node_held : to_z w64 (of_z w64 v.node) ≡ v.node = search rules in
-    rw (c.before.before.a.given.1, moon_held, sun_held, latitude_held, elongation_held, node_held)
+    rw (c.in-By.is, moon_held, sun_held, latitude_held, elongation_held, node_held)
 
-returns_2 : tie.Need-returns-2
+pub returns-in-Refused : goal.returns-in-Refused
 unfolding tests_five_arguments five_arguments_answer refused
-returns_2 c =
-    rw (c.before.before.a2.given.1, held64 c.number.result c.number.type-inv ∙ c.number.ensures)
-
-pub five_arguments_out_spec : {M : Type 1} → statement M
-five_arguments_out_spec = tie.close (tie.spec enum_known_a enum_known_a_2 number_requires returns returns_2)
+returns-in-Refused c =
+    rw (c.in-Refused.is, held64 c.number.result c.number.type_inv ∙ c.number.ensures)
