@@ -64,8 +64,10 @@ fn none_observed(refused: i64) -> TurbelicusObserved
 pub fn beside_out(p: TurbelicusPlaced, seen: TurbelicusAltitude) -> TurbelicusObserved
     ensures { result ≡ beside_out p seen }
 {
-    if p.refused == 0 {
-        if seen.refused == 0 {
+    let is_placed = p.refused == 0;
+    let is_seen = seen.refused == 0;
+    if is_placed {
+        if is_seen {
             return TurbelicusObserved {
                 refused: 0,
                 ra: p.ra,

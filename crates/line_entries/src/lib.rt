@@ -1,3 +1,5 @@
+#![tactic(auto)]
+
 // The line of an entry, of our own program `places`, put at the front of lent memory.
 
 ghost use Rattle.std.specs.Prelude.{◌≡◌, ◌≤◌, ◌+◌, length};

@@ -1,3 +1,5 @@
+#![tactic(auto)]
+
 // The place of a star, docs/RULES.md, "Turns, readings, place": the six steps with their refusals.
 
 ghost use Rattle.std.specs.Prelude.{◌≡◌};

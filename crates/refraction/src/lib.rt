@@ -1,3 +1,5 @@
+#![tactic(auto)]
+
 // The lift of a star by the air, docs/RULES.md, "Refraction": Sæmundsson's formula in whole
 // numbers. Angles are in µas, pressures and temperatures in tenths.
 

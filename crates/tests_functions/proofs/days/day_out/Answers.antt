@@ -1,0 +1,24 @@
+-- `tests_functions::days::day_out` meets its contract.
+use mathlib.Core.Path.{◌≡◌, ◌∙◌}
+use borrow.Author.Rules.{rules}
+use mir.Syntax.{w64}
+use mir.Val.{to_z, of_z}
+use Rattle.rules.specs.Refusals.{given, refused}
+use Rattle.rules.specs.Answers.{numbered_answer}
+use Rattle.words.specs.Fits.{held64}
+use Rattle.tests_functions.specs.Dates.{tests_day}
+use Rattle.tests_functions.proofs.days.day_out.Goals as goal
+
+pub number-requires : goal.number-requires
+number-requires c = search rules
+
+pub returns-in-Day : goal.returns-in-Day
+unfolding tests_day numbered_answer given
+returns-in-Day c =
+    let z = c.in-Day.day in
+    let held : to_z w64 (of_z w64 z) ≡ z = search rules in
+    rw (c.in-Day.is, held)
+
+pub returns-in-Refused : goal.returns-in-Refused
+unfolding tests_day numbered_answer refused
+returns-in-Refused c = rw (c.in-Refused.is, held64 c.number.result c.number.type_inv ∙ c.number.ensures)
