@@ -1,3 +1,5 @@
+#![tactic(auto)]
+
 // What the module's firmware in C calls, with plain numbers and slices: nothing but calls.
 // include/turbelicus.h says the same in C.
 //
