@@ -1,1 +1,3 @@
+#![tactic(auto)]
+
 // Laws of whole numbers, in specs/. There is no code.

@@ -1,3 +1,5 @@
+#![tactic(auto)]
+
 // Lines of the program `places`, our own and not document 01's: a line read, and all that is
 // printed for it.
 

@@ -1,3 +1,5 @@
+#![tactic(auto)]
+
 // The numbers that have a name: docs/RULES.md, "Numbers, angles, instants" and "Lists".
 
 // C: the circle, half of it, a quarter and half of that, in µas.

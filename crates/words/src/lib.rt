@@ -1,1 +1,3 @@
+#![tactic(auto)]
+
 // What a machine word holds, in specs/. There is no code.
