@@ -1,5 +1,5 @@
 -- The array of blanks, read into.
-use Rattle.std.proofs.Common.{◌≡◌, ◌∙◌, ap}
+use Rattle.std.proofs.Common.{◌∙◌, ap}
 use Rattle.std.specs.Prelude.{replicate}
 use Rattle.rules.specs.declared.Entry.{Entry}
 use Rattle.rules.specs.ListReading.{list_read, entries_after_read}

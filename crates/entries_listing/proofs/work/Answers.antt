@@ -1,5 +1,5 @@
 -- What the list answers of the entries that are lent, and the others after them.
-use Rattle.std.proofs.Common.{◌≡◌, ◌++◌, drop}
+use Rattle.std.proofs.Common.{◌++◌, drop}
 use Rattle.entries_listing.specs.Listing.{listing_worked}
 use Rattle.entries_listing.proofs.work.Goals as goal
 

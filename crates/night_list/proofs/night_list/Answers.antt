@@ -1,6 +1,6 @@
-use Rattle.std.proofs.Common.{◌≡◌, ◌∙◌, ap, refl, length, drop, arith, ◌++◌, ◌≤◌, ◌<◌, nat_abs, pos, w64, to_z, of_z}
+use Rattle.std.proofs.Common.{◌≡◌, ◌∙◌, ap, refl, length, drop, arith, ◌++◌, ◌<◌, nat_abs, pos, w64}
 use Rattle.rules.specs.NightList.{marked}
-use Rattle.night_list_checks.specs.Plans.{PreparedFits, answer_of}
+use Rattle.night_list_checks.specs.Plans.{answer_of}
 use borrow.Author.Rules.{sfits_of}
 use mir.Facts.{to_z-of_z}
 use Rattle.night_list.proofs.Lists.{marked_none}

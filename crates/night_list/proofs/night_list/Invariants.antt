@@ -1,5 +1,5 @@
 -- The entries before `i` are worked, the others as they came, and `n` counts the filled ones.
-use Rattle.std.proofs.Common.{◌≡◌, ◌-◌, ◌≤◌, ◌++◌, map, take, drop, pos}
+use Rattle.std.proofs.Common.{◌≡◌, ◌-◌, ◌≤◌, ◌++◌, drop, pos}
 use Rattle.rules.specs.NightList.{marked}
 use Rattle.night_list.proofs.Planned.{worked_all}
 use Rattle.night_list.proofs.night_list.Given as goal

@@ -1,5 +1,5 @@
 -- The night list of the moment and the site that the numbers name, each of which its word holds.
-use Rattle.std.proofs.Common.{◌≡◌, ◌∙◌, ap, w32, w64}
+use Rattle.std.proofs.Common.{◌∙◌, ap, w32, w64}
 use mir.Facts.{to_z-of_z}
 use Rattle.rules.specs.declared.Listed.{Listed}
 use Rattle.rules.specs.Answers.{listed_answer}
