@@ -4,19 +4,18 @@ use borrow.Author.Rules.{rules}
 use mir.Facts.{to_z-of_z}
 use Rattle.rules.specs.Answers.{placed_answer}
 use Rattle.answers.specs.Answers.{placed_out}
-use Rattle.module.proofs.places.turbelicus_place.Statement.{statement}
-use Rattle.module.proofs.places.turbelicus_place.Tie as tie
+use Rattle.module.proofs.places.turbelicus_place.Goals as goal
 
-place_requires : tie.Need-place-requires
-place_requires c κs = search rules
+pub place-requires : goal.place-requires
+place-requires c = search rules
 
-placed_out_requires : tie.Need-placed-out-requires
-placed_out_requires c κs = search rules
+pub placed_out-requires : goal.placed_out-requires
+placed_out-requires c = search rules
 
-returns : tie.Need-returns
+pub returns : goal.returns
 returns c =
     let b = c.before.before in
-    c.placed_out_lem.ensures ∙ ap (λ a. placed_out (placed_answer a))
+    c.placed_out.ensures ∙ ap (λ a. placed_out (placed_answer a))
     (rw (
       to_z-of_z b.ranges.year,
       to_z-of_z b.ranges.month,
@@ -25,7 +24,7 @@ returns c =
       to_z-of_z b.ranges.minute,
       to_z-of_z b.ranges.second,
       to_z-of_z b.ranges.ms,
-      to_z-of_z b.ranges.ut1-minus-utc,
+      to_z-of_z b.ranges.ut1_minus_utc,
       to_z-of_z b.ranges.latitude,
       to_z-of_z b.ranges.longitude,
       to_z-of_z b.ranges.ra,
@@ -33,7 +32,4 @@ returns c =
       to_z-of_z b.ranges.ra_motion,
       to_z-of_z b.ranges.declination_motion,
     )
-    at c.before.place.ensures)
-
-pub turbelicus_place_spec : {M : Type 1} → statement M
-turbelicus_place_spec = tie.close (tie.spec place_requires placed_out_requires returns)
+    at c.place.ensures)

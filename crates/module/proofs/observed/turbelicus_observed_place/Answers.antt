@@ -13,22 +13,24 @@ use Rattle.stars.specs.Numbers.{star_of}
 use Rattle.answers.specs.Given.{moment_of, site_of, weather_of}
 use Rattle.answers.specs.Answers.{placed_out, altitude_out}
 use Rattle.answers.specs.Beside.{beside_is}
-use Rattle.module.proofs.observed.turbelicus_observed_place.Statement.{statement}
+use Rattle.module.proofs.observed.turbelicus_observed_place.Goals as goal
+use Rattle.module.proofs.observed.turbelicus_observed_place.Lts as lts
+use Rattle.module.proofs.observed.turbelicus_observed_place.Reads as reads
 use Rattle.module.proofs.observed.turbelicus_observed_place.Tie as tie
 
 -- the place and the record of what is given
-abbrev place_of : tie.Start → Placed
+abbrev place_of : goal.Start → Placed
 place_of b = place
     (moment_of b.args.year b.args.month b.args.day b.args.hour b.args.minute b.args.second
-    b.args.ms b.args.ut1-minus-utc)
+    b.args.ms b.args.ut1_minus_utc)
     (star_of b.args.ra b.args.declination b.args.ra_motion b.args.declination_motion)
     (site_of b.args.latitude b.args.longitude)
 
-abbrev kept_of : tie.Start → Weather
-kept_of b = weather_of b.args.pressure b.args.temperature b.args.has-pressure b.args.has-temperature
+abbrev kept_of : goal.Start → Weather
+kept_of b = weather_of b.args.pressure b.args.temperature b.args.has_pressure b.args.has_temperature
 
-placed_is : (k : tie.After-turbelicus-place)
-    → k.turbelicus_place.result ≡ placed_out (placed_answer (place_of k.before))
+placed_is : (k : lts.After-turbelicus_place tie.the-claims reads.Pre reads.Post)
+    → k.turbelicus_place-placed.result ≡ placed_out (placed_answer (place_of k.before))
 placed_is k =
     let b = k.before in
     rw (
@@ -39,7 +41,7 @@ placed_is k =
       to_z-of_z b.ranges.minute,
       to_z-of_z b.ranges.second,
       to_z-of_z b.ranges.ms,
-      to_z-of_z b.ranges.ut1-minus-utc,
+      to_z-of_z b.ranges.ut1_minus_utc,
       to_z-of_z b.ranges.latitude,
       to_z-of_z b.ranges.longitude,
       to_z-of_z b.ranges.ra,
@@ -47,40 +49,31 @@ placed_is k =
       to_z-of_z b.ranges.ra_motion,
       to_z-of_z b.ranges.declination_motion,
     )
-    at k.turbelicus_place.ensures
+    at k.turbelicus_place-placed.ensures
 
-seen_is : (o : tie.After-turbelicus-observed-altitude)
-    → o.turbelicus_observed_altitude.result
+seen_is : (o : lts.After-turbelicus_observed_altitude tie.the-claims reads.Pre reads.Post)
+    → o.turbelicus_observed_altitude-seen.result
     ≡ altitude_out (angle_answer (observed_altitude (kept_of o.before.before.before)
-    o.before.before.turbelicus_place.result.altitude))
+    o.turbelicus_place-placed.result.altitude))
 seen_is o =
     let b = o.before.before.before in
-    let h = o.before.before.turbelicus_place.result.altitude in
+    let h = o.turbelicus_place-placed.result.altitude in
     let held : to_z w64 (of_z w64 h) ≡ h = search rules in
-    rw (held, to_z-of_z b.ranges.has-pressure, to_z-of_z b.ranges.has-temperature)
-    at o.turbelicus_observed_altitude.ensures
+    rw (held, to_z-of_z b.ranges.has_pressure, to_z-of_z b.ranges.has_temperature)
+    at o.turbelicus_observed_altitude-seen.ensures
 
-returns : tie.Need-returns
+pub returns : goal.returns
 unfolding observed_place
 returns c =
     let k = c.before.before.before in
-    c.beside_out_lem.ensures
+    c.beside_out.ensures
     ∙ rw (seen_is c.before, placed_is k) (beside_is (place_of k.before) (kept_of k.before))
 
-turbelicus_place_requires : tie.Need-turbelicus-place-requires
-turbelicus_place_requires c κs = search rules
+pub turbelicus_place-placed-requires : goal.turbelicus_place-placed-requires
+turbelicus_place-placed-requires c = search rules
 
-turbelicus_observed_altitude_requires : tie.Need-turbelicus-observed-altitude-requires
-turbelicus_observed_altitude_requires c κs = search rules
+pub turbelicus_observed_altitude-seen-requires : goal.turbelicus_observed_altitude-seen-requires
+turbelicus_observed_altitude-seen-requires c = search rules
 
-beside_out_requires : tie.Need-beside-out-requires
-beside_out_requires c κs = search rules
-
-pub turbelicus_observed_place_spec : {M : Type 1} → statement M
-turbelicus_observed_place_spec =
-    tie.close
-    (tie.spec
-    turbelicus_place_requires
-    turbelicus_observed_altitude_requires
-    beside_out_requires
-    returns)
+pub beside_out-requires : goal.beside_out-requires
+beside_out-requires c = search rules
