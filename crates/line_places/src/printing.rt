@@ -2,7 +2,7 @@
 
 ghost use Rattle.std.specs.Prelude.{◌≡◌, true, ◌∷◌, [], ◌≤◌, ◌+◌, length};
 ghost use Rattle.std.proofs.lemmas.List.Edits.{sets};
-ghost use Rattle.rules.specs.Times.{ended};
+ghost use Rattle.rules.specs.Times.{overlaid, ended};
 ghost use Rattle.decimals.specs.Refused.{refused_to};
 ghost use Rattle.line_places.specs.Air.{air_accepted};
 ghost use Rattle.line_places.specs.Answers.{line_in};
@@ -28,6 +28,17 @@ pub fn put_refusal(number: i64, out: &mut [u8]) -> usize
     end + 1
 }
 
+// Puts bytes at the front of the room, and answers how many they are.
+fn copy(text: &[u8], out: &mut [u8]) -> usize
+    requires { length text.now ≤ length out.old }
+    ensures value { result ≡ length text.now }
+    ensures out_after { out.new ≡ overlaid text.now out.old }
+{
+    let n = text.len();
+    out[..n].copy_from_slice(text);
+    n
+}
+
 // The header with its end.
 fn put_header(air: Air, out: &mut [u8]) -> usize
     requires { 64 ≤ length out.old }
@@ -35,8 +46,8 @@ fn put_header(air: Air, out: &mut [u8]) -> usize
     ensures out_after { out.new ≡ sets out.old 0 (ended (header_in air ∷ [])) }
 {
     match air {
-        Air::Unknown => bytes::copy(b"entry mark ra dec az alt\n", out),
-        Air::Of(_, _) => bytes::copy(b"entry mark ra dec az alt obs\n", out),
+        Air::Unknown => copy(b"entry mark ra dec az alt\n", out),
+        Air::Of(_, _) => copy(b"entry mark ra dec az alt obs\n", out),
     }
 }
 
