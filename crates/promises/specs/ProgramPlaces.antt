@@ -14,7 +14,7 @@ use denote.RattleType.{RattleType}
 use mir.Syntax.{Dict}
 use Rattle.std.specs.declared.io.traits.Read.{Ghosts}
 use Rattle.std.specs.contracts.fs.File.{the_row as File}
-use Rattle.core.specs.contracts.rt.Stdin.{the_row as Stdin}
+use Rattle.std.specs.contracts.rt.Stdin.{the_row as Stdin}
 use Rattle.rules.specs.Times.{newline, overlaid}
 use Rattle.laws.specs.PuttingBytes.{front_of}
 use Rattle.line_asked.specs.Asking.{length_before}
