@@ -13,9 +13,9 @@ pub returns-else-has_angle : goal.returns-else-has_angle
 unfolding mark_of
 returns-else-has_angle c =
     elim c.else-has_angle.branch [
-      else-has_angle-via-then-has_angle+else-has_angle-2 w ↦ rw (
+      | else-has_angle-via-then-has_angle+else-has_angle-2 w ↦ rw (
         sym c.has_angle.ensures ∙ w.if-has_angle.true,
         sym w.has_angle-then-has_angle.ensures ∙ w.if-has_angle-2.false,
       )
-    | else-has_angle-via-else-has_angle w ↦ rw (sym c.has_angle.ensures ∙ w.if-has_angle.false)
+      | else-has_angle-via-else-has_angle w ↦ rw (sym c.has_angle.ensures ∙ w.if-has_angle.false)
     ]

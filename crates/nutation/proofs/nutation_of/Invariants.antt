@@ -9,7 +9,7 @@ abbrev pub invariant-loop-k : goal.invariant-loop-k
 invariant-loop-k l = record {
   k_le : l.k ≤ term_count;
   longitude_is : l.longitude ≡ sum_to (longitude_product l.t) l.k;
-  obliquity_is : l.obliquity ≡ sum_to (obliquity_product l.t) l.k
+  obliquity_is : l.obliquity ≡ sum_to (obliquity_product l.t) l.k;
 }
 
 abbrev pub decreases-loop-k : goal.decreases-loop-k
