@@ -121,7 +121,7 @@ excepted() { # excepted CRATE::PATH
 # every public function has its theorem in promises, or stands with its reason among the exceptions
 one_answer() { # one_answer CRATE MODULE NAME
     local theorems
-    theorems=crates/promises/specs/OnlyOne/$(sed -E 's/(^|_)([a-z])/\U\2/g' <<<"$1").antt
+    theorems=crates/promises/proofs/OnlyOne/$(sed -E 's/(^|_)([a-z])/\U\2/g' <<<"$1").antt
     grep -qs "^use Rattle\.$1\.specs\.contracts\.${2:+${2//::/.}.}$3 as $3\$" "$theorems" \
         && declared "$theorems" "${3}_one"
 }

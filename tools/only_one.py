@@ -1,5 +1,5 @@
 #!/usr/bin/env python3
-"""Writes crates/promises/specs/OnlyOne/: for each public function, that no second answer fits its contract.
+"""Writes crates/promises/proofs/OnlyOne/: for each public function, that no second answer fits its contract.
 
     tools/only_one.py [ROOT]
 
@@ -24,7 +24,7 @@ FUNCTION = re.compile(
 )
 
 # the form of a contract: the lemma of OfContracts.antt that serves it, and how many arguments are found by the prover
-LEMMAS = {"one": 1, "one_and": 3, "one_and_content": 4, "one_each": 4, "one_content": 3}
+LEMMAS = {"one": 1, "one_and": 3, "one_both": 4, "one_each": 4, "one_content": 3}
 
 
 def crates():
@@ -55,7 +55,7 @@ def lemma_of(written, answers, ensures):
         return "one_and" if len(ensures) == 1 and "×" in ensures[0] else "one"
     if not answers:
         return "one_content"
-    return "one_each" if len(ensures) == 2 else "one_and_content"
+    return "one_each" if len(ensures) == 2 else "one_both"
 
 
 def theorem(name, given, answers, clauses):
@@ -100,17 +100,17 @@ def page(crate):
 
 
 def main():
-    specs = pathlib.Path(sys.argv[1] if len(sys.argv) > 1 else TREE) / "crates/promises/specs"
-    shutil.rmtree(specs / "OnlyOne", ignore_errors=True)
-    (specs / "OnlyOne").mkdir(parents=True)
+    proofs = pathlib.Path(sys.argv[1] if len(sys.argv) > 1 else TREE) / "crates/promises/proofs"
+    shutil.rmtree(proofs / "OnlyOne", ignore_errors=True)
+    (proofs / "OnlyOne").mkdir(parents=True)
     index = ["-- No second answer fits, nor a second content of lent memory: of each public function, by its contract."]
     for crate in crates():
         text = page(crate)
         if text:
             name = crate.title().replace("_", "")
-            (specs / "OnlyOne" / f"{name}.antt").write_text(text)
+            (proofs / "OnlyOne" / f"{name}.antt").write_text(text)
             index.append(f"pub mod {name}")
-    (specs / "OnlyOne.antt").write_text("\n".join(index) + "\n")
+    (proofs / "OnlyOne.antt").write_text("\n".join(index) + "\n")
 
 
 main()

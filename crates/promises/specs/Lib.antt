@@ -1,7 +1,6 @@
 -- The reading room: each file restates in full what is promised, and proves it by citing the crates below.
 pub mod OfContracts
 pub mod Calls
-pub mod OnlyOne
 pub mod ByContract
 pub mod ByContractForC
 pub mod Demand1

@@ -101,16 +101,6 @@ module _ {M : Type 1} (𝓤 : Ura M) where
       (fact_mono 𝓤 ((w ≡ rule) × (b ≡ after)) (w ≡ rule) (λ p. p.0))
       (fact_mono 𝓤 ((w ≡ rule) × (b ≡ after)) (b ≡ after) (λ p. p.1))
 
-  -- the same, for the files of `OnlyOne`
-  pub one_and_content : {W X : Type 0} (v w rule : W) (c d after : X)
-      → ent 𝓤 (conj 𝓤 (fact 𝓤 ((v ≡ rule) × (c ≡ after))) (fact 𝓤 ((w ≡ rule) × (d ≡ after))))
-      (fact 𝓤 ((v ≡ w) × (c ≡ d)))
-  one_and_content v w rule c d after = told_each v w rule c d after
-      (fact_mono 𝓤 ((v ≡ rule) × (c ≡ after)) (v ≡ rule) (λ p. p.0))
-      (fact_mono 𝓤 ((v ≡ rule) × (c ≡ after)) (c ≡ after) (λ p. p.1))
-      (fact_mono 𝓤 ((w ≡ rule) × (d ≡ after)) (w ≡ rule) (λ p. p.0))
-      (fact_mono 𝓤 ((w ≡ rule) × (d ≡ after)) (d ≡ after) (λ p. p.1))
-
   -- two clauses, `⌜ r ≡ rule ⌝` and `⌜ now p.exit ≡ after ⌝`
   pub one_each : {W X : Type 0} (v w rule : W) (a b after : X)
       → ent 𝓤 (conj 𝓤 (sep 𝓤 (fact 𝓤 (v ≡ rule)) (fact 𝓤 (a ≡ after))) (sep 𝓤 (fact 𝓤 (w ≡ rule)) (fact 𝓤 (b ≡ after))))

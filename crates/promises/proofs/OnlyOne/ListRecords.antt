@@ -5,7 +5,7 @@ use prog.Memory.{Memory}
 use prog.Routine.{Routine}
 use types.Logic.{Logic}
 use contract.Monad.{Fun}
-use Rattle.promises.specs.OfContracts.{OneAnswerAndContent, one_and_content, one_content}
+use Rattle.promises.specs.OfContracts.{OneAnswerAndContent, one_both, one_content}
 use Rattle.list_records.specs.contracts.put_star as put_star
 use Rattle.list_records.specs.contracts.put_record as put_record
 use Rattle.list_records.specs.contracts.put_head as put_head
@@ -17,7 +17,7 @@ module _ {M : Type 1} {𝓤 : Ura M} (𝓛 : Logic 𝓤) (mem : Memory → SProp
 
   pub put_record_one : OneAnswerAndContent 𝓤 put_record.ended (put_record.clauses 𝓛 mem run)
       (λ κs x. x.0.now)
-  put_record_one κs passed g r s x y = one_and_content 𝓤 r s _ _ _ _
+  put_record_one κs passed g r s x y = one_both 𝓤 r s _ _ _ _
 
   pub put_head_one : OneAnswerAndContent 𝓤 put_head.ended (put_head.clauses 𝓛 mem run)
       (λ κs x. x.0.now)

@@ -5,7 +5,7 @@ use prog.Memory.{Memory}
 use prog.Routine.{Routine}
 use types.Logic.{Logic}
 use contract.Monad.{Fun}
-use Rattle.promises.specs.OfContracts.{OneAnswer, OneAnswerAndContent, one, one_and_content}
+use Rattle.promises.specs.OfContracts.{OneAnswer, OneAnswerAndContent, one, one_both}
 use Rattle.module.specs.contracts.clocks.turbelicus_utc as turbelicus_utc
 use Rattle.module.specs.contracts.lists.turbelicus_list_count as turbelicus_list_count
 use Rattle.module.specs.contracts.lists.turbelicus_list_star as turbelicus_list_star
@@ -30,7 +30,7 @@ module _ {M : Type 1} {𝓤 : Ura M} (𝓛 : Logic 𝓤) (mem : Memory → SProp
   pub turbelicus_list_write_one : OneAnswerAndContent 𝓤 turbelicus_list_write.ended
       (turbelicus_list_write.clauses 𝓛 mem run)
       (λ κs x. x.1.0.now)
-  turbelicus_list_write_one κs passed g r s x y = one_and_content 𝓤 r s _ _ _ _
+  turbelicus_list_write_one κs passed g r s x y = one_both 𝓤 r s _ _ _ _
 
   pub turbelicus_observed_place_one : OneAnswer 𝓤 turbelicus_observed_place.ended
       (turbelicus_observed_place.clauses 𝓛 mem run)

@@ -5,10 +5,10 @@ use prog.Memory.{Memory}
 use prog.Routine.{Routine}
 use types.Logic.{Logic}
 use contract.Monad.{Fun}
-use Rattle.promises.specs.OfContracts.{OneAnswerAndContent, one_and_content}
+use Rattle.promises.specs.OfContracts.{OneAnswerAndContent, one_both}
 use Rattle.list_from_numbers.specs.contracts.list_write as list_write
 
 module _ {M : Type 1} {𝓤 : Ura M} (𝓛 : Logic 𝓤) (mem : Memory → SProp 𝓤) (run : Routine → Fun 𝓤) where
   pub list_write_one : OneAnswerAndContent 𝓤 list_write.ended (list_write.clauses 𝓛 mem run)
       (λ κs x. x.1.0.now)
-  list_write_one κs passed g r s x y = one_and_content 𝓤 r s _ _ _ _
+  list_write_one κs passed g r s x y = one_both 𝓤 r s _ _ _ _

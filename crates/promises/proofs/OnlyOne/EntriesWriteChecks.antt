@@ -5,7 +5,7 @@ use prog.Memory.{Memory}
 use prog.Routine.{Routine}
 use types.Logic.{Logic}
 use contract.Monad.{Fun}
-use Rattle.promises.specs.OfContracts.{OneAnswer, OneAnswerAndContent, one, one_and_content}
+use Rattle.promises.specs.OfContracts.{OneAnswer, OneAnswerAndContent, one, one_both}
 use Rattle.entries_write_checks.specs.contracts.refused_up_to as refused_up_to
 use Rattle.entries_write_checks.specs.contracts.write_plan as write_plan
 use Rattle.entries_write_checks.specs.contracts.finish as finish
@@ -19,4 +19,4 @@ module _ {M : Type 1} {𝓤 : Ura M} (𝓛 : Logic 𝓤) (mem : Memory → SProp
 
   pub finish_one : OneAnswerAndContent 𝓤 finish.ended (finish.clauses 𝓛 mem run)
       (λ κs x. x.0.now)
-  finish_one κs passed g r s x y = one_and_content 𝓤 r s _ _ _ _
+  finish_one κs passed g r s x y = one_both 𝓤 r s _ _ _ _
