@@ -69,7 +69,7 @@ part_cut (suc from) count zero file h = absurd (omega arith)
 part_cut (suc from) count (suc k) [] h = refl
 part_cut (suc from) count (suc k) (b ∷ bs) h = part_cut from count k bs (omega arith)
 
-mark_cut : (k : ℕ) (file : List ℕ) → head_length ≤ k → head_length ≤ length file
+pub mark_cut : (k : ℕ) (file : List ℕ) → head_length ≤ k → head_length ≤ length file
     → mark_refused (take k file) ≡ mark_refused file
 unfolding mark_refused unsigned_at
 mark_cut k file h l =
@@ -81,7 +81,7 @@ mark_cut k file h l =
     )
 
 -- 64 records take 1,543 bytes
-long_count : (file : List ℕ) → file_kept ≤ length file → count_refused file ≡ true
+pub long_count : (file : List ℕ) → file_kept ≤ length file → count_refused file ≡ true
 unfolding file_length
 long_count file h = go (ltb most_records (count_in file)) refl
   where
@@ -90,32 +90,3 @@ long_count file h = go (ltb most_records (count_in file)) refl
     go false e =
         let few = ltb-false most_records (count_in file) e in
         count_fails file few (λ same. omega (arith, same))
-
--- so a longer file is refused 9 or 10
-long_refused : (file : List ℕ) → file_kept ≤ length file
-    → list_count file ≡ Listed.Refused (cond (mark_refused file) Refusal.Mark Refusal.Count)
-unfolding list_count
-long_refused file h = rw (long_count file h) (go (mark_refused file))
-  where
-    go : (t : Bool) → cond t (Listed.Refused Refusal.Mark) (Listed.Refused Refusal.Count)
-        ≡ Listed.Refused (cond t Refusal.Mark Refusal.Count)
-    go true = refl
-    go false = refl
-
--- and by what is kept of it as by the whole
-pub file_cut : (people : Bool) (air : Air) (file input : List ℕ)
-    → places people air (take file_kept file) input ≡ places people air file input
-file_cut people air file input = go (ltb file_kept (length file)) refl
-  where
-    go : (t : Bool) → ltb file_kept (length file) ≡ t
-        → places people air (take file_kept file) input ≡ places people air file input
-    go false e =
-        ap (λ bytes. places people air bytes input) (take_all file_kept file (ltb-false file_kept (length file) e))
-    go true e =
-        let long = ltb-true file_kept (length file) e in
-        let same = mark_cut file_kept file (omega arith) (omega arith) in
-        file_refused people air (take file_kept file) input (cond (mark_refused file) Refusal.Mark Refusal.Count)
-        (long_refused (take file_kept file) (omega (arith, length-take file_kept file))
-        ∙ ap (λ t. Listed.Refused (cond t Refusal.Mark Refusal.Count)) same)
-        ∙ sym (file_refused people air file input (cond (mark_refused file) Refusal.Mark Refusal.Count)
-        (long_refused file (omega arith)))

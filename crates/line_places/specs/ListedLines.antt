@@ -117,7 +117,7 @@ module _ (people : Bool) (air : Air) (file : List ℕ) (count : ℕ) (e : list_c
   few : count ≤ most_records
   few = accepted_few file count e
 
-  read_is : list_read file blanks ≡ Listed.Count count
+  pub read_is : list_read file blanks ≡ Listed.Count count
   read_is = read_counted file blanks count e (omega (arith, few, blanks_length))
 
   front_is : take count (entries_after_read file blanks) ≡ map fresh_entry (stars file)
@@ -149,7 +149,7 @@ module _ (people : Bool) (air : Air) (file : List ℕ) (count : ℕ) (e : list_c
             (λ i h. line_same people air file n count rest i e h),
       )
 
-  by_prepared : (m : Moment) (site : Site) (p : Prepared) → night_of m site ≡ p
+  pub by_prepared : (m : Moment) (site : Site) (p : Prepared) → night_of m site ≡ p
       → answer_lines people air file (in_air air (begun_in count (night_of m site)))
       ≡ worked_lines people air count (listing_worked m site count (entries_after_read file blanks))
   unfolding answer_lines in_air begun_in worked_lines listing_worked counted
@@ -157,24 +157,6 @@ module _ (people : Bool) (air : Air) (file : List ℕ) (count : ℕ) (e : list_c
   by_prepared m site (Prepared.For n) g =
       ap (λ p. answer_lines people air file (in_air air (begun_in count p))) g ∙ by_air (air_accepted air) n
       ∙ sym (in_night m site n g)
-
-  by_asked : (asked : Asked) → answer_lines people air file (in_air air (begun_for count asked))
-      ≡ asked_lines people air asked (entries_after_read file blanks) count
-  unfolding answer_lines in_air begun_for asked_lines
-  by_asked (Asked.For m site) = by_prepared m site (night_of m site) refl
-  by_asked Asked.Other = refl
-
--- all that is printed
-pub lists_print : (people : Bool) (air : Air) (file : List ℕ) (asked : Asked)
-    → answer_lines people air file (in_air air (begun_of (list_count file) asked))
-    ≡ read_lines people air asked (listing_read file)
-unfolding answer_lines in_air begun_of read_lines listing_read counted
-lists_print people air file asked = go (list_count file) refl
-  where
-    go : (l : Listed) → list_count file ≡ l → answer_lines people air file (in_air air (begun_of (list_count file) asked))
-        ≡ counted (list_read file blanks) (asked_lines people air asked (entries_after_read file blanks))
-    go (Listed.Refused r) e = rw (e, read_refused file blanks r e)
-    go (Listed.Count count) e = rw (e, read_is people air file count e) (by_asked people air file count e asked)
 
 -- a file that is read has 64 entries at most
 pub read_few : (file : List ℕ) (l : Listing) (count : ℕ) → l ≡ listing_read file → l.answer ≡ Listed.Count count

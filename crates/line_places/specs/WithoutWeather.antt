@@ -42,7 +42,7 @@ places_without people file input =
 
 -- ---- the same bytes
 
-begun_same : (b : Begun) → in_air Air.Unknown b ≡ b
+pub begun_same : (b : Begun) → in_air Air.Unknown b ≡ b
 unfolding in_air air_accepted
 begun_same (Begun.For count n) = refl
 begun_same (Begun.Refused r) = refl
@@ -61,19 +61,12 @@ entry_lines_same people file n zero = refl
 entry_lines_same people file n (suc count) =
     rw (entry_lines_same people file n count, star_line_same people n count (list_star file count))
 
-answer_lines_same : (people : Bool) (file : List ℕ) (b : Begun)
+pub answer_lines_same : (people : Bool) (file : List ℕ) (b : Begun)
     → answer_lines people Air.Unknown file b ≡ answer_lines_without people file b
 unfolding answer_lines answer_lines_without header_in
 answer_lines_same people file (Begun.For count n) = ap (λ lines. header ∷ lines) (entry_lines_same people file n count)
 answer_lines_same people file (Begun.Refused r) = refl
 answer_lines_same people file Begun.Other = refl
-
-pub without_weather : (people : Bool) (file input : List ℕ)
-    → places people Air.Unknown file input ≡ places_without people file input
-unfolding places places_without begun
-without_weather people file input =
-    let b = begun_of (list_count file) (asked_of (first_line input)) in
-    ap ended (ap (answer_lines people Air.Unknown file) (begun_same b) ∙ answer_lines_same people file b)
 
 -- ---- the same commands
 

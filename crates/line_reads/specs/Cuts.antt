@@ -28,11 +28,11 @@ use Rattle.line_reads.specs.LineEnds.{Unended, unended_more, lines_ended, lines_
 
 -- ---- the answers to lines, with their ends
 
-abbrev answers : Program → List (List ℕ) → List ℕ
+abbrev pub answers : Program → List (List ℕ) → List ℕ
 answers p lines = ended (map (answered_by p) lines)
 
 -- after the header, all that is printed
-printed_is : (p : Program) (bytes : List ℕ) → header_line p ++ answers p (lines_of bytes) ≡ printed_by p bytes
+pub printed_is : (p : Program) (bytes : List ℕ) → header_line p ++ answers p (lines_of bytes) ≡ printed_by p bytes
 unfolding header_line answered_by printed_by times dates ended
 printed_is Program.Times bytes = refl
 printed_is Program.Dates bytes = refl
@@ -47,7 +47,7 @@ last_answer_lem p s (b ∷ line) u k =
     rw (t, lines_last b line u) (keeps_answer p s (b ∷ line) k)
 
 -- from a line that has begun to the end of the input
-abbrev FromBegun : Program → List ℕ → Type 0
+abbrev pub FromBegun : Program → List ℕ → Type 0
 FromBegun p bytes = (s : Start) (line : List ℕ) → Unended line → Keeps s line
     → answers_to p s bytes ++ last_answer p (start_after_all s bytes) ≡ answers p (lines_of (line ++ bytes))
 
@@ -71,7 +71,7 @@ module _ (p : Program) (b : ℕ) (bytes : List ℕ) (more : FromBegun p bytes) (
       rw e (more (with_byte s b) (line ++ b ∷ []) (unended_more line b u e) (keeps_more s line k b)
       ∙ ap (λ l. answers p (lines_of l)) (append_assoc line (b ∷ []) bytes))
 
-answers_from : (p : Program) (bytes : List ℕ) → FromBegun p bytes
+pub answers_from : (p : Program) (bytes : List ℕ) → FromBegun p bytes
 unfolding answers_to start_after_all
 answers_from p [] s line u k = rw (append-nil line) (last_answer_lem p s line u k)
 answers_from p (b ∷ bytes) s line u k = go (eqb b newline) refl (answers_from p bytes)
@@ -99,7 +99,7 @@ start_append s [] b = refl
 start_append s (c ∷ a) b = start_append (start_after s c) a b
 
 -- the cuts do not matter
-answers_of_all_lem : (p : Program) (s : Start) (reads : List (List ℕ)) → ToTheEnd reads
+pub answers_of_all_lem : (p : Program) (s : Start) (reads : List (List ℕ)) → ToTheEnd reads
     → answers_of_all p s reads ≡ answers_to p s (flatten reads) ++ last_answer p (start_after_all s (flatten reads))
 unfolding ToTheEnd answers_of_all flatten answers_to start_after_all answers_of start_of_next
 answers_of_all_lem p s [] e = absurd e
@@ -111,16 +111,9 @@ answers_of_all_lem p s ((b ∷ bytes) ∷ reads) e =
     rw (answers_of_all_lem p t reads e, answers_append p s read rest, start_append s read rest)
     (sym (append_assoc (answers_to p s read) (answers_to p t rest) (last_answer p (start_after_all t rest))))
 
--- the header, and the answers of each read to the end of the input
-pub printed_of_reads : (p : Program) (reads : List (List ℕ)) → ToTheEnd reads
-    → header_line p ++ answers_of_all p none reads ≡ printed_by p (flatten reads)
-printed_of_reads p reads e =
-    rw (answers_of_all_lem p none reads e, answers_from p (flatten reads) none [] tt keeps_none)
-    (printed_is p (flatten reads))
-
 -- ---- an input that goes on
 
-answers_so_far : (p : Program) (s : Start) (reads : List (List ℕ)) → GoingOn reads
+pub answers_so_far : (p : Program) (s : Start) (reads : List (List ℕ)) → GoingOn reads
     → answers_of_all p s reads ≡ answers_to p s (flatten reads)
 unfolding GoingOn answers_of_all flatten answers_to start_after_all answers_of start_of_next
 answers_so_far p s [] g = refl
@@ -129,28 +122,6 @@ answers_so_far p s ((b ∷ bytes) ∷ reads) g =
     let read : List ℕ = b ∷ bytes in
     rw (answers_so_far p (start_after_all s read) reads g, answers_append p s read (flatten reads))
 
-none_begun : (p : Program) (s : Start) (front : List ℕ) → last_answer p (start_after_all s (front ++ newline ∷ [])) ≡ []
+pub none_begun : (p : Program) (s : Start) (front : List ℕ) → last_answer p (start_after_all s (front ++ newline ∷ [])) ≡ []
 unfolding start_after_all start_after last_answer
 none_begun p s front = rw (start_append s front (newline ∷ []))
-
--- no answer waits for more: where the last byte read ends a line, every line read is answered
-pub printed_so_far : (p : Program) (reads : List (List ℕ)) (front : List ℕ) → GoingOn reads
-    → flatten reads ≡ front ++ newline ∷ [] → header_line p ++ answers_of_all p none reads ≡ printed_by p (flatten reads)
-printed_so_far p reads front g e =
-    let bytes : List ℕ = flatten reads in
-    let last : last_answer p (start_after_all none bytes) ≡ [] = rw e (none_begun p none front) in
-    let whole : answers_to p none bytes ≡ answers p (lines_of bytes) =
-    sym (append-nil (answers_to p none bytes)) ∙ (rw last at (answers_from p bytes none [] tt keeps_none)) in
-    rw (answers_so_far p none reads g, whole) (printed_is p bytes)
-
--- ---- of each program
-
-pub times_of_reads : (reads : List (List ℕ)) → ToTheEnd reads
-    → header_line Program.Times ++ answers_of_all Program.Times none reads ≡ times (flatten reads)
-unfolding printed_by
-times_of_reads reads e = printed_of_reads Program.Times reads e
-
-pub dates_of_reads : (reads : List (List ℕ)) → ToTheEnd reads
-    → answers_of_all Program.Dates none reads ≡ dates (flatten reads)
-unfolding header_line printed_by
-dates_of_reads reads e = printed_of_reads Program.Dates reads e

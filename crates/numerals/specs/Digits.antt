@@ -67,7 +67,7 @@ module _ (bs : List ℕ) (f : Spellable bs) where
             arith,
             spelled_ge m (drop (i + 1) bs),
             sym (spelled_step bs i n h) ∙ e,
-            long_lt (ltb-true 12 (length bs) t),
+            digits_lt 18 bs (f (ltb-true 12 (length bs) t)),
           )
       go false t = let l = ltb-false 12 (length bs) t in omega (arith, most_le_12 i (omega arith))
 
@@ -76,5 +76,5 @@ module _ (bs : List ℕ) (f : Spellable bs) where
   all_le h = go (ltb 12 (length bs)) refl
     where
       go : (t : Bool) → ltb 12 (length bs) ≡ t → spelled 0 bs ≤ 10 ^ 18
-      go true t = omega (arith, long_lt (ltb-true 12 (length bs) t))
+      go true t = omega (arith, digits_lt 18 bs (f (ltb-true 12 (length bs) t)))
       go false t = omega (arith, most_le_12 (length bs) (ltb-false 12 (length bs) t))

@@ -20,7 +20,7 @@ use Rattle.line_reads.specs.declared.Start.{Start}
 use Rattle.line_reads.specs.Reads.{header_line, printed_by, none, answers_of, start_of_next, after_read, begun}
 use Rattle.line_reads.specs.Inputs.{ToTheEnd, GoingOn, answers_of_all}
 use Rattle.laws.specs.PuttingBytes.{front_of}
-use Rattle.line_reads.specs.Cuts.{printed_of_reads, printed_so_far}
+use Rattle.line_reads.proofs.Cuts.{printed_of_reads, printed_so_far}
 use Rattle.promises.specs.OfContracts.{so_told, together}
 use Rattle.promises.specs.Calls.{Each, all_tell}
 use Rattle.line_reads.specs.contracts.answer_read as answer_read

@@ -21,7 +21,8 @@ use Rattle.line_asked.specs.Asking.{length_before}
 use Rattle.input.specs.Input.{line_with_end}
 use Rattle.line_places.specs.declared.air.Air.{Air}
 use Rattle.line_places.specs.Program.{first_line, places}
-use Rattle.line_places.specs.Cuts.{file_kept, line_kept, input_cut, file_cut}
+use Rattle.line_places.specs.Cuts.{file_kept, line_kept, input_cut}
+use Rattle.line_places.proofs.Cuts.{file_cut}
 use Rattle.promises.specs.OfContracts.{AsksNothing, Tells, clauses_told, nothing_but}
 use Rattle.input.specs.contracts.read_file as read_file
 use Rattle.input.specs.contracts.read_line as read_line

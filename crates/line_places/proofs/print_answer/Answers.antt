@@ -18,7 +18,8 @@ use Rattle.line_places.specs.Answers.{begun_of, in_air, begun}
 use Rattle.line_places.specs.Program.{answer_lines, first_line, places}
 use Rattle.line_places.specs.Listed.{read_lines}
 use Rattle.line_places.specs.Room.{answer_room}
-use Rattle.line_places.specs.ListedLines.{file_counted, file_refused, lists_print, read_few}
+use Rattle.line_places.specs.ListedLines.{file_counted, file_refused, read_few}
+use Rattle.line_places.proofs.ListedLines.{lists_print}
 use Rattle.line_places.specs.Printed.{ended_refused, answer_put}
 use Rattle.line_places.proofs.print_answer.Goals as goal
 use Rattle.line_places.proofs.print_answer.Lts as lts
