@@ -7,7 +7,8 @@ help: ## list the targets
 
 run: ## prove and run the program `places` on the stars of examples/bright.slt
 	@mkdir -p target
-	@cd crates/places && rt run -- ../../examples/bright.slt <stdin 2>../../target/run.log || { cat ../../target/run.log; exit 1; }
+	@cd crates/places && rt run -- ../../examples/bright.slt <stdin >../../target/run.log 2>&1 || { cat ../../target/run.log; exit 1; }
+	@crates/places/out/places examples/bright.slt <crates/places/stdin
 
 test: ## prove all and run all tests: the gate, .ci/run
 	@.ci/run

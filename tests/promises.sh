@@ -143,7 +143,7 @@ stated() { # stated FILE NAME
 asks_nothing() { # asks_nothing CRATE MODULE NAME
     local theorems
     for theorems in crates/promises/specs/Demand1/Asks*.antt crates/promises/specs/{,Demand1/}Program*.antt; do
-        grep -qs "^use Rattle\.$1\.specs\.contracts\.${2:+${2//::/.}.}$3 as " "$theorems" \
+        grep -Eqs "^use Rattle\.$1\.specs\.contracts\.${2:+${2//::/.}.}$3 as $3(_lem)?\$" "$theorems" \
             && declared "$theorems" "${3}_asks_nothing" && return 0
     done
     return 1

@@ -36,11 +36,12 @@ NOTE = re.compile(r"^note: (?:\./)?(\S+?:\d+:\d+): it is not proved that ([^(;]*
 SHAPES = [
     (re.compile(r"that can be named from here"), "the function has no such need"),
     (re.compile(r"is not in scope|has no field|has no `"), "no such name"),
+    (re.compile(r"^expected type `[^` ]+`, but this has type"), "a value of another type"),
     (re.compile(r"^\d+ declarations? that depends? on "), "something else was refused"),
 ]
 
 # the type of a declaration that proves a need
-NEED = re.compile(r"[\w-]+\.(?:Need-)?(\S+)")
+NEED = re.compile(r"goal\.(?:Need-)?(\S+)")
 
 # what the function ensures, and what a loop keeps
 ENSURED = re.compile(r"^returns(-.*)?$|-(init|preserved)(-.*)?$")
@@ -199,16 +200,16 @@ def looked_at_again(doubtful: dict[str, list[tuple[str, pathlib.Path, Refusal]]]
     """Of edits, by their crates, the refusal that tells the most, by their names: checks of several crates side by side."""
     def of_crate(crate: str) -> dict[str, Refusal]:
         told = {}
-        for name, edit, first in doubtful[crate]:
-            found = [it for it in copy.refusals(crate, edit.read_text(), first.place) if not it.shape]
-            facts = [it for it in found if not need_of(it, edit.parent.parent)]
-            told[name] = next(iter(facts or found), first)
+        # a copy for each crate, so that no check reads what another has edited below it
+        with tempfile.TemporaryDirectory(prefix="refused-at-") as room:
+            copy = Copy(room)
+            for name, edit, first in doubtful[crate]:
+                found = [it for it in copy.refusals(crate, edit.read_text(), first.place) if not it.shape]
+                best = [it for it in found if is_told(edit, it)]
+                told[name] = next(iter(best or found), first)
         return told
 
-    if not doubtful:
-        return {}
-    with tempfile.TemporaryDirectory(prefix="refused-at-") as room, ThreadPoolExecutor(os.cpu_count()) as pool:
-        copy = Copy(room)
+    with ThreadPoolExecutor(os.cpu_count()) as pool:
         return {name: refusal for told in pool.map(of_crate, doubtful) for name, refusal in told.items()}
 
 
