@@ -1,9 +1,9 @@
 #!/usr/bin/env bash
 # Holds every name of docs/PROMISES.md and of docs/EDITS.md to the files: definitions, functions, theorems, edits and
-# tests; and every edit to docs/EDITS.md. Holds every public function, of every source file, to its theorem that no
-# second answer fits, or to its reason among the exceptions; every one that C calls to its theorem that it asks nothing;
-# and every one with a `requires` to the page. The theorems of a function that C calls are those of the library's, whose
-# parameters, answer and clauses are the export's own: tools/exports.py.
+# tests; and every edit to docs/EDITS.md. Holds every public function and method, of every source file, and every
+# conversion by `From`, to its theorem that no second answer fits, or to its reason among the exceptions; every one that
+# C calls to its theorem that it asks nothing; and every one with a `requires` to the page. The theorems of a function
+# that C calls are those of the library's, whose parameters, answer and clauses are the export's own: tools/exports.py.
 set -uo pipefail
 cd "$(dirname "${BASH_SOURCE[0]}")/.." || exit 2
 
@@ -101,9 +101,9 @@ while IFS=$'\t' read -r heading labels names; do
     [ $tried -ge 2 ] || fail "not two edits: $heading"
 done < <(promises)
 
-# the public functions of a source file, with `C ` before those that C calls
+# the public functions of a source file, with `C ` before those that C calls; its methods are looked at by themselves
 public() { # public FILE
-    sed -nE 's/^[[:space:]]*pub (extern "C" )?fn ([a-z0-9_]+)[(<].*/\1\2/p' "$1" | sed 's/^extern "C" /C /'
+    sed -nE '/^impl /,/^}/d; s/^[[:space:]]*pub (extern "C" )?fn ([a-z0-9_]+)[(<].*/\1\2/p' "$1" | sed 's/^extern "C" /C /'
 }
 
 # and those of them that ask something of their caller
@@ -118,12 +118,34 @@ excepted() { # excepted CRATE::PATH
     section Exceptions | grep -q "^- \`$1\`: [^ ]"
 }
 
-# every public function has its theorem in promises, or stands with its reason among the exceptions
+# every public function has its theorem in promises, or stands with its reason among the exceptions; where two of a crate
+# have one name, that of the second has its module's before it
 one_answer() { # one_answer CRATE MODULE NAME
-    local theorems
+    local theorems known
     theorems=crates/promises/proofs/OnlyOne/$(sed -E 's/(^|_)([a-z])/\U\2/g' <<<"$1").antt
-    grep -qs "^use Rattle\.$1\.specs\.contracts\.${2:+${2//::/.}.}$3 as $3\$" "$theorems" \
-        && declared "$theorems" "${3}_one"
+    [ -e "$theorems" ] || return 1
+    known=$(sed -nE "s/^use Rattle\.$1\.specs\.contracts\.${2:+${2//::/\\.}\\.}${3//./\\.} as (\w+)\$/\1/p" "$theorems")
+    [ -n "$known" ] && declared "$theorems" "${known}_one"
+}
+
+# the conversions of a source file, as the prover names them: to what, `From`, and the words of what it is made from
+conversions() { # conversions FILE
+    local target source
+    while read -r target source; do
+        printf '%sFrom%s.from\n' "$target" "$(grep -oE '\w+' <<<"$source" | sed 's/^./\U&/' | tr -d '\n')"
+    done < <(sed -nE 's/^impl From<(.*)> for (\w+) \{/\2 \1/p' "$1")
+}
+
+# The public methods of a source file, as the prover names them: by their type, and that by the file that declares it.
+methods() { # methods CRATE FILE
+    local target name home
+    while read -r target name; do
+        home=$(grep -lE "^pub (struct|enum) $target " crates/"$1"/src/*.rt)
+        home=${home##*/} home=${home%.rt}
+        case $home in lib | main) home='' ;; esac
+        printf '%s/%s.%s\n' "$home" "$target" "$name"
+    done < <(awk '/^impl [A-Za-z]+ \{/ { target = $2 } /^}/ { target = "" }
+        target != "" && match($0, /^    pub fn [a-z0-9_]+/) { print target, substr($0, 12, RLENGTH - 11) }' "$2")
 }
 
 # A module that its crate keeps to itself: what is public there is called inside the crate alone, by functions whose
@@ -185,6 +207,14 @@ while read -r source; do
         called=$((called + 1)) exported[$crate $name]=
         asks_nothing "$crate" "$module" "$name" || fail "no theorem that it asks nothing: $whole"
     done < <(public "$source")
+    while read -r name; do
+        one_answer "$crate" "$module" "$name" || fail "no theorem that no second answer fits: $crate::$name"
+        alone=$((alone + 1))
+    done < <(conversions "$source")
+    while IFS=/ read -r home name; do
+        one_answer "$crate" "$home" "$name" || fail "no theorem that no second answer fits: $crate::$name"
+        alone=$((alone + 1))
+    done < <(methods "$crate" "$source")
     while read -r name; do
         name=$crate::${module:+$module::}$name
         grep -q "\`$name\`" <<<"$inner" || fail "asks something, and is not on the page: $name"

@@ -4,7 +4,8 @@
     tools/callers.py
 
 A function of a module that its crate keeps to itself (`mod name;`) has to be called from another file of the crate; any
-other from another crate, or it is exported to C. It prints each that is not, and exits 1 where there is one.
+other from another crate, or it is exported to C, or it stands in PROMISED. It prints each that is not, and exits 1 where
+there is one.
 """
 import pathlib
 import re
@@ -13,9 +14,19 @@ import sys
 ROOT = pathlib.Path(__file__).resolve().parent.parent
 CRATES = ROOT / "crates"
 
-PUBLIC = re.compile(r'^ *pub (extern "C" )?fn (\w+)', re.M)
+# public so that promises can name their contracts: no other crate calls them, or none does any more
+PROMISED = {
+    "calendar::dates::day_refused", "calendar::dates::day_number", "polynomials::instant_refused", "marks::has_angle",
+    "numerals::of_number", "numerals::signed", "numerals::tenths::of_tenths", "numerals::tenths::tenths_of",
+    "line_dates::print_date",
+}
+
+PUBLIC = re.compile(r'^ *pub (extern "C" )?fn (\w+)(?:<.*?>)?(\((?:&|&mut )?self\b)?', re.M)
 # as rt fmt lays a call out; what a clause applies to something has a blank before it
-CALL = re.compile(r"\b([a-z_]\w*(?:::\w+)*)\(")
+CALL = re.compile(r"\b([a-z_]\w*(?:::\w+)*)(?:::<[^()]*>)?\(")
+# a function that is handed to another, and a method
+HANDED = re.compile(r"[(,]\s*([a-z_]\w*(?:::[a-z_]\w*)+)\s*[),]")
+METHOD = re.compile(r"\.(\w+)\(")
 USE = re.compile(r"^(?:pub )?use ([\w:]+?)(?:::\{([^}]*)\})?;", re.M)
 
 
@@ -45,7 +56,7 @@ def calls(crate: str, module: str, text: str) -> set[str]:
     code = re.sub(r"//.*|^ghost use [^;]*;|^ghost .*$", "", text, flags=re.M)
     names = {used.split("::")[-1]: re.sub(r"^crate\b", crate, used) for used in uses(code)}
     found = set()
-    for call in CALL.findall(code):
+    for call in CALL.findall(code) + HANDED.findall(code):
         head, *rest = call.split("::")
         full = path(names.get(head, re.sub(r"^crate$", crate, head)), *rest)
         found |= {full, path(crate, full), path(crate, module, full)}
@@ -58,14 +69,17 @@ def main() -> None:
         for source in sorted(CRATES.glob("*/src/**/*.rt"))
     }
     called = {source: calls(*told) for source, told in sources.items()}
+    methods = {source: set(METHOD.findall(text)) for source, (_, _, text) in sources.items()}
     faults, count = [], 0
     for source, (crate, module, text) in sources.items():
         inside = module and kept(crate, module)
-        for for_c, name in PUBLIC.findall(text):
+        for for_c, name, of_self in PUBLIC.findall(text):
             count += 1
             full = path(crate, module, name)
             others = [other for other, (its, _, _) in sources.items() if other != source and (inside or its != crate)]
-            if not for_c and not any(full in called[other] for other in others):
+            if for_c or full in PROMISED or of_self and any(name in methods[other] for other in others):
+                continue
+            if not any(full in called[other] for other in others):
                 faults.append(f"public, and called from {'no other file' if inside else 'no other crate'}: {full}")
     print("\n".join([*faults, f"{count} public functions; {len(faults)} faults"]))
     sys.exit(1 if faults or count < 100 else 0)

@@ -1,5 +1,5 @@
 #!/usr/bin/env python3
-"""Holds every copy of the refusal numbers to the one list of them: `Refusal` in crates/rules/src/lib.rt, in its order.
+"""Holds every copy of the refusal numbers to the one list of them: `Refusal` in crates/rules/src/lib.rt.
 
     tools/refusals.py
 
@@ -17,9 +17,6 @@ RULES = "crates/rules/specs/Refusals.antt"
 PAGES = ["README.md", "docs/RULES.md"]
 HEADER = "include/turbelicus.h"
 SECOND = "tests/second/src/refusals.rs"
-
-# the numbers of document 02 whose requests have not landed
-NOT_YET = range(15, 20)
 
 Rows = list[tuple[int, str]]
 
@@ -43,8 +40,9 @@ def numbered(path: str, rows: list[tuple[str, str]]) -> tuple[str, Rows]:
     return path, [(int(number), name) for number, name in rows]
 
 
-def the_list() -> list[str]:
-    return re.findall(r"^    (\w+),$", part(LIST, r"pub enum Refusal \{", r"\}"), re.M)
+def the_list() -> Rows:
+    rows = re.findall(r"^    (\w+) = (\d+),$", part(LIST, r"pub enum Refusal \{", r"\}"), re.M)
+    return [(int(number), constant(name)) for name, number in rows]
 
 
 def copies_with_names() -> list[tuple[str, Rows]]:
@@ -75,9 +73,8 @@ def spoken_of() -> list[tuple[str, int]]:
 
 
 def main() -> None:
-    names = the_list()
-    numbers = [number for number in range(1, len(names) + len(NOT_YET) + 1) if number not in NOT_YET][:len(names)]
-    listed = list(zip(numbers, map(constant, names)))
+    listed = the_list()
+    numbers = [number for number, _ in listed]
     copies = copies_with_names()
     faults = [
         f"{path}: not as the list has it: {sorted(set(rows) ^ set(listed)) or 'the order'}"
@@ -88,8 +85,8 @@ def main() -> None:
             faults.append(f"{path}: the table has the numbers {rows}, the list {numbers}")
     # 0 is that of a line of another form
     faults += [f"{path}: there is no refusal {number}" for path, number in spoken_of() if number not in [0, *numbers]]
-    print("\n".join([*faults, f"{len(names)} refusals, {len(copies) + len(tables())} copies; {len(faults)} faults"]))
-    sys.exit(1 if faults or not names else 0)
+    print("\n".join([*faults, f"{len(listed)} refusals, {len(copies) + len(tables())} copies; {len(faults)} faults"]))
+    sys.exit(1 if faults or not listed else 0)
 
 
 if __name__ == "__main__":

@@ -1,7 +1,6 @@
 -- The structs that C gets: the paper's number and values in their order. Definitions only.
-use Rattle.std.specs.Prelude.{cond, get_or, ℤ, pos, nat_abs}
+use Rattle.std.specs.Prelude.{cond, get_or, ℤ, pos, nat_abs, Result}
 use Rattle.rules.specs.declared.Weather.{Weather}
-use Rattle.rules.specs.declared.Weathered.{Weathered}
 use Rattle.rules.specs.Units.{same}
 use Rattle.rules.specs.Refusals.{Answer}
 use Rattle.rules.specs.Answers.{weathered_number, weathered_record}
@@ -120,5 +119,5 @@ record_out number w = record {
   has_temperature = cond w.has_temperature (pos 1) (pos 0);
 }
 
-unfoldable pub weathered_out : Weathered → TurbelicusWeathered
+unfoldable pub weathered_out : Result Weather Weather → TurbelicusWeathered
 weathered_out a = record_out (pos (weathered_number a)) (weathered_record a)

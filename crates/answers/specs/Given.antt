@@ -1,12 +1,11 @@
 -- The rules' data from plain numbers. Definitions only.
-use Rattle.std.specs.Prelude.{not, cond, ℤ, Float}
+use Rattle.std.specs.Prelude.{not, cond, ℤ, Float, Result, Err}
 use Rattle.rules.specs.declared.Tt.{Tt}
 use Rattle.rules.specs.declared.Moment.{Moment}
 use Rattle.rules.specs.declared.Site.{Site}
 use Rattle.rules.specs.declared.Direction.{Direction}
 use Rattle.rules.specs.declared.Reading.{Reading}
 use Rattle.rules.specs.declared.Weather.{Weather}
-use Rattle.rules.specs.declared.Weathered.{Weathered}
 use Rattle.rules.specs.Units.{same, +◌}
 use Rattle.rules.specs.Weather.{taken_from}
 
@@ -37,9 +36,9 @@ weather_of pressure temperature has_pressure has_temperature = record {
 }
 
 -- a reading by its kind: 0 is nothing, 1 a pressure, 2 a temperature, and any other is not accepted
-unfoldable pub taken_by_kind : Weather → ℤ → Float → Weathered
+unfoldable pub taken_by_kind : Weather → ℤ → Float → Result Weather Weather
 taken_by_kind w kind x =
     cond (same kind (+ 0)) (taken_from w Reading.Nothing)
     (cond (same kind (+ 1)) (taken_from w (Reading.Pressure x))
     (cond (same kind (+ 2)) (taken_from w (Reading.Temperature x))
-    (Weathered.Refused w)))
+    (Err w)))

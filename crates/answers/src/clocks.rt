@@ -4,12 +4,12 @@ ghost use Rattle.std.specs.Prelude.{◌≡◌};
 ghost use Rattle.rules.specs.Answers.{clocked_answer};
 ghost use Rattle.answers.specs.Answers.{clocked_out};
 
-use rules::Clocked;
+use rules::{Refusal, Utc};
 
-// The refusal's number and noughts, or 0 and the UTC date and time of day. Seven numbers of 32 bits
-// would leave half a word that says nothing, so ms has 64.
+// A Result for C: the refusal's number and noughts, or 0 and the UTC date and time of day. Seven
+// numbers of 32 bits would leave half a word that says nothing, so ms has 64.
 #[repr(C)]
-#[derive(Clone, Copy)]
+#[derive(Clone, Copy, Default)]
 pub struct TurbelicusClocked {
     pub refused: i64,
     pub year: i32,
@@ -21,29 +21,25 @@ pub struct TurbelicusClocked {
     pub ms: i64,
 }
 
-pub fn clocked_out(a: Clocked) -> TurbelicusClocked
-    ensures { result ≡ clocked_out (clocked_answer a) }
-{
-    match a {
-        Clocked::At(utc) => TurbelicusClocked {
-            refused: 0,
-            year: utc.date.year,
-            month: utc.date.month,
-            day: utc.date.day,
-            hour: utc.time.hour,
-            minute: utc.time.minute,
-            second: utc.time.second,
-            ms: utc.time.ms as i64,
-        },
-        Clocked::Refused(r) => TurbelicusClocked {
-            refused: refusals::number(r),
-            year: 0,
-            month: 0,
-            day: 0,
-            hour: 0,
-            minute: 0,
-            second: 0,
-            ms: 0,
-        },
+impl From<Result<Utc, Refusal>> for TurbelicusClocked {
+    ghost from_gives = { λ a b. b ≡ clocked_out (clocked_answer a) };
+
+    fn from(a: Result<Utc, Refusal>) -> TurbelicusClocked {
+        match a {
+            Ok(utc) => TurbelicusClocked {
+                refused: 0,
+                year: utc.date.year,
+                month: utc.date.month,
+                day: utc.date.day,
+                hour: utc.time.hour,
+                minute: utc.time.minute,
+                second: utc.time.second,
+                ms: i64::from(utc.time.ms),
+            },
+            Err(r) => TurbelicusClocked {
+                refused: refusals::number(r),
+                ..Default::default()
+            },
+        }
     }
 }

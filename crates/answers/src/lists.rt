@@ -4,9 +4,10 @@ ghost use Rattle.std.specs.Prelude.{◌≡◌};
 ghost use Rattle.rules.specs.Answers.{listed_answer, listed_star_answer};
 ghost use Rattle.answers.specs.Answers.{counted_out, starred_out, written_out};
 
-use rules::{Listed, ListedStar};
+use crate::numbered;
+use rules::{Refusal, Star};
 
-// The refusal's number and nought, or 0 and the number of records.
+// A Result for C: the refusal's number and nought, or 0 and the number of records.
 #[repr(C)]
 #[derive(Clone, Copy)]
 pub struct TurbelicusCounted {
@@ -14,9 +15,10 @@ pub struct TurbelicusCounted {
     pub count: usize,
 }
 
-// The refusal's number and noughts, or 0 and the star; angles in µas, motions in µas a year.
+// A Result for C: the refusal's number and noughts, or 0 and the star; angles in µas, motions in
+// µas a year.
 #[repr(C)]
-#[derive(Clone, Copy)]
+#[derive(Clone, Copy, Default)]
 pub struct TurbelicusStarred {
     pub refused: i64,
     pub ra: i64,
@@ -25,7 +27,8 @@ pub struct TurbelicusStarred {
     pub declination_motion: i32,
 }
 
-// The refusal's number and nought, or 0 and the file's length in bytes.
+// A Result for C: the refusal's number and nought, or 0 and the file's length in bytes. It is a
+// twin of TurbelicusCounted, since C names the number of each.
 #[repr(C)]
 #[derive(Clone, Copy)]
 pub struct TurbelicusWritten {
@@ -33,53 +36,40 @@ pub struct TurbelicusWritten {
     pub length: usize,
 }
 
-pub fn counted_out(a: Listed) -> TurbelicusCounted
-    ensures { result ≡ counted_out (listed_answer a) }
-{
-    match a {
-        Listed::Count(count) => TurbelicusCounted {
-            refused: 0,
-            count: count,
-        },
-        Listed::Refused(r) => TurbelicusCounted {
-            refused: refusals::number(r),
-            count: 0,
-        },
+impl From<Result<usize, Refusal>> for TurbelicusCounted {
+    ghost from_gives = { λ a b. b ≡ counted_out (listed_answer a) };
+
+    fn from(a: Result<usize, Refusal>) -> TurbelicusCounted {
+        let (refused, count) = numbered(a, 0);
+        TurbelicusCounted { refused, count }
     }
 }
 
-pub fn starred_out(a: ListedStar) -> TurbelicusStarred
-    ensures { result ≡ starred_out (listed_star_answer a) }
-{
-    match a {
-        ListedStar::Of(s) => TurbelicusStarred {
-            refused: 0,
-            ra: s.ra,
-            declination: s.declination,
-            ra_motion: s.ra_motion,
-            declination_motion: s.declination_motion,
-        },
-        ListedStar::Refused(r) => TurbelicusStarred {
-            refused: refusals::number(r),
-            ra: 0,
-            declination: 0,
-            ra_motion: 0,
-            declination_motion: 0,
-        },
+impl From<Result<Star, Refusal>> for TurbelicusStarred {
+    ghost from_gives = { λ a b. b ≡ starred_out (listed_star_answer a) };
+
+    fn from(a: Result<Star, Refusal>) -> TurbelicusStarred {
+        match a {
+            Ok(s) => TurbelicusStarred {
+                refused: 0,
+                ra: s.ra,
+                declination: s.declination,
+                ra_motion: s.ra_motion,
+                declination_motion: s.declination_motion,
+            },
+            Err(r) => TurbelicusStarred {
+                refused: refusals::number(r),
+                ..Default::default()
+            },
+        }
     }
 }
 
-pub fn written_out(a: Listed) -> TurbelicusWritten
-    ensures { result ≡ written_out (listed_answer a) }
-{
-    match a {
-        Listed::Count(length) => TurbelicusWritten {
-            refused: 0,
-            length: length,
-        },
-        Listed::Refused(r) => TurbelicusWritten {
-            refused: refusals::number(r),
-            length: 0,
-        },
+impl From<Result<usize, Refusal>> for TurbelicusWritten {
+    ghost from_gives = { λ a b. b ≡ written_out (listed_answer a) };
+
+    fn from(a: Result<usize, Refusal>) -> TurbelicusWritten {
+        let (refused, length) = numbered(a, 0);
+        TurbelicusWritten { refused, length }
     }
 }

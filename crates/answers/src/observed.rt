@@ -2,12 +2,14 @@
 
 ghost use Rattle.std.specs.Prelude.{◌≡◌};
 ghost use Rattle.rules.specs.Answers.{angle_answer};
-ghost use Rattle.answers.specs.Answers.{altitude_out, none_observed, beside_out};
+ghost use Rattle.answers.specs.Answers.{altitude_out, beside_out};
 
+use crate::numbered;
 use crate::places::TurbelicusPlaced;
-use rules::Angle;
+use rules::Refusal;
 
-// The refusal's number and nought, or 0 and the altitude in µas.
+// A Result for C: the refusal's number and nought, or 0 and the altitude in µas. One like it stands
+// for each such number, since C names it.
 #[repr(C)]
 #[derive(Clone, Copy)]
 pub struct TurbelicusAltitude {
@@ -15,9 +17,10 @@ pub struct TurbelicusAltitude {
     pub altitude: i64,
 }
 
-// The refusal's number and noughts, or 0, the place with its flags, and the observed altitude in µas.
+// A Result for C: the refusal's number and noughts, or 0, the place with its flags, and the
+// observed altitude in µas.
 #[repr(C)]
-#[derive(Clone, Copy)]
+#[derive(Clone, Copy, Default)]
 pub struct TurbelicusObserved {
     pub refused: i64,
     pub ra: i64,
@@ -29,57 +32,40 @@ pub struct TurbelicusObserved {
     pub has_azimuth: i32,
 }
 
-pub fn altitude_out(a: Angle) -> TurbelicusAltitude
-    ensures { result ≡ altitude_out (angle_answer a) }
-{
-    match a {
-        Angle::Of(h) => TurbelicusAltitude {
-            refused: 0,
-            altitude: h,
-        },
-        Angle::Refused(r) => TurbelicusAltitude {
-            refused: refusals::number(r),
-            altitude: 0,
-        },
+impl From<Result<i64, Refusal>> for TurbelicusAltitude {
+    ghost from_gives = { λ a b. b ≡ altitude_out (angle_answer a) };
+
+    fn from(a: Result<i64, Refusal>) -> TurbelicusAltitude {
+        let (refused, altitude) = numbered(a, 0);
+        TurbelicusAltitude { refused, altitude }
     }
 }
 
-// A refusal's number and noughts.
-fn none_observed(refused: i64) -> TurbelicusObserved
-    ensures { result ≡ none_observed refused }
-{
-    TurbelicusObserved {
-        refused,
-        ra: 0,
-        declination: 0,
-        azimuth: 0,
-        altitude: 0,
-        observed_altitude: 0,
-        has_ra: 0,
-        has_azimuth: 0,
-    }
-}
-
-// A place and the observed altitude of it, as one answer: the place's refusal first.
+// A place and the observed altitude of it, as one answer: the place's refusal first. It reads the
+// numbers of C's structs, as docs/DECISIONS.md has it for speed ("two calls in one").
 pub fn beside_out(p: TurbelicusPlaced, seen: TurbelicusAltitude) -> TurbelicusObserved
     ensures { result ≡ beside_out p seen }
 {
-    let is_placed = p.refused == 0;
-    let is_seen = seen.refused == 0;
-    if is_placed {
-        if is_seen {
-            return TurbelicusObserved {
-                refused: 0,
-                ra: p.ra,
-                declination: p.declination,
-                azimuth: p.azimuth,
-                altitude: p.altitude,
-                observed_altitude: seen.altitude,
-                has_ra: p.has_ra,
-                has_azimuth: p.has_azimuth,
-            };
-        }
-        return none_observed(seen.refused);
+    if p.refused != 0 {
+        return TurbelicusObserved {
+            refused: p.refused,
+            ..Default::default()
+        };
     }
-    none_observed(p.refused)
+    if seen.refused != 0 {
+        return TurbelicusObserved {
+            refused: seen.refused,
+            ..Default::default()
+        };
+    }
+    TurbelicusObserved {
+        refused: 0,
+        ra: p.ra,
+        declination: p.declination,
+        azimuth: p.azimuth,
+        altitude: p.altitude,
+        observed_altitude: seen.altitude,
+        has_ra: p.has_ra,
+        has_azimuth: p.has_azimuth,
+    }
 }

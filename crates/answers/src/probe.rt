@@ -1,14 +1,12 @@
-// The weather record, as C hands it over and gets it back: two floats and two flags.
+// The weather record, as C gets it: two floats and two flags.
 
-ghost use Rattle.std.specs.Prelude.{◌≡◌, not};
-ghost use Rattle.rules.specs.Units.{same, +◌};
-ghost use Rattle.answers.specs.Given.{weather_of};
-ghost use Rattle.answers.specs.Answers.{record_out, weathered_out};
+ghost use Rattle.std.specs.Prelude.{◌≡◌};
+ghost use Rattle.answers.specs.Answers.{weathered_out};
 
-use crate::flags::flag;
-use rules::{Refusal, Weather, Weathered};
+use rules::{Refusal, Weather};
 
-// 0 or 14, and the record: with the reading, or as it was. A flag is 1 where a reading has come.
+// A Result for C: 0 or 14, and the record, with the reading or as it was. A flag is 1 where a
+// reading has come.
 #[repr(C)]
 #[derive(Clone, Copy)]
 pub struct TurbelicusWeathered {
@@ -19,50 +17,20 @@ pub struct TurbelicusWeathered {
     pub has_temperature: i32,
 }
 
-// A flag of C: any number but nought is set.
-fn is_set(n: i32) -> bool
-    ensures { result ≡ not (same n (+ 0)) }
-{
-    if n == 0 {
-        return false;
-    }
-    true
-}
+impl From<Result<Weather, Weather>> for TurbelicusWeathered {
+    ghost from_gives = { λ a b. b ≡ weathered_out a };
 
-// The record of what C hands over.
-pub fn weather_of(
-    pressure: f32,
-    temperature: f32,
-    has_pressure: i32,
-    has_temperature: i32,
-) -> Weather
-    ensures { result ≡ weather_of pressure temperature has_pressure has_temperature }
-{
-    Weather {
-        pressure,
-        temperature,
-        has_pressure: is_set(has_pressure),
-        has_temperature: is_set(has_temperature),
-    }
-}
-
-fn record_out(refused: i64, w: Weather) -> TurbelicusWeathered
-    ensures { result ≡ record_out refused w }
-{
-    TurbelicusWeathered {
-        refused,
-        pressure: w.pressure,
-        temperature: w.temperature,
-        has_pressure: flag(w.has_pressure),
-        has_temperature: flag(w.has_temperature),
-    }
-}
-
-pub fn weathered_out(a: Weathered) -> TurbelicusWeathered
-    ensures { result ≡ weathered_out a }
-{
-    match a {
-        Weathered::Now(w) => record_out(0, w),
-        Weathered::Refused(w) => record_out(refusals::number(Refusal::Reading), w),
+    fn from(a: Result<Weather, Weather>) -> TurbelicusWeathered {
+        let (refused, w) = match a {
+            Ok(w) => (0, w),
+            Err(w) => (refusals::number(Refusal::Reading), w),
+        };
+        TurbelicusWeathered {
+            refused,
+            pressure: w.pressure,
+            temperature: w.temperature,
+            has_pressure: i32::from(w.has_pressure),
+            has_temperature: i32::from(w.has_temperature),
+        }
     }
 }

@@ -22,23 +22,17 @@ fn arc_stage(w: i64, k: i64, p: i64) -> i64
     rounding::rnd_quotient(UNIT, k) - rounding::rnd_by_unit(w * p)
 }
 
-// The arc's row: θ over u.
+// The arc's row: θ over u. What it shares with `series::rows::stages` is the `for` over the row:
+// the stage and where it begins are each one's own. `UpTo` stays a clause, as there.
 fn arc_factor(w: i64) -> i64
     requires { UpTo w unit }
     ensures { result ≡ rule.arc_stages w rule.arc_row (rnd (pos unit) 23) }
 {
-    let p = rounding::rnd_quotient(UNIT, 23);
-    let p = arc_stage(w, 21, p);
-    let p = arc_stage(w, 19, p);
-    let p = arc_stage(w, 17, p);
-    let p = arc_stage(w, 15, p);
-    let p = arc_stage(w, 13, p);
-    let p = arc_stage(w, 11, p);
-    let p = arc_stage(w, 9, p);
-    let p = arc_stage(w, 7, p);
-    let p = arc_stage(w, 5, p);
-    let p = arc_stage(w, 3, p);
-    arc_stage(w, 1, p)
+    let mut p = rounding::rnd_quotient(UNIT, 23);
+    for k in &[21, 19, 17, 15, 13, 11, 9, 7, 5, 3, 1] {
+        p = arc_stage(w, *k, p);
+    }
+    p
 }
 
 // θ = Rnd(u p / 2^30).

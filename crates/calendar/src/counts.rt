@@ -5,7 +5,7 @@ ghost use Rattle.rules.specs.Calendar as rule;
 ghost use Rattle.laws.specs.Ranges.{InRange};
 ghost use Rattle.laws.specs.FindingDates.{DaysOfYear, date_in};
 
-use crate::years::{leap, month_days, years_before};
+use crate::years::{months_of, years_before};
 use rules::Date;
 
 // The date in a year that has a number of days of the year before it.
@@ -13,26 +13,19 @@ fn date_in(year: i64, days: i64) -> Date
     requires { DaysOfYear year days }
     ensures { result ≡ date_in (nat_abs year) (nat_abs days) }
 {
-    let row = leap(year);
     let mut rest = days;
-    let mut k: usize = 0;
-    while k < 11 {
-        let length = month_days(row, k);
+    for (before, length) in months_of(year).iter().enumerate() {
+        let length = i64::from(*length);
         if rest < length {
             return Date {
                 year: year as i32,
-                month: 1 + k as i32,
+                month: 1 + before as i32,
                 day: 1 + rest as i32,
             };
         }
         rest -= length;
-        k += 1;
     }
-    Date {
-        year: year as i32,
-        month: 12,
-        day: 1 + rest as i32,
-    }
+    unreachable!()
 }
 
 // The date that has a number of days of the span before it: four years are 1461 days, a leap year

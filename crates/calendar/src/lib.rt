@@ -7,7 +7,7 @@ ghost use Rattle.rules.specs.Calendar.{day_of, date_of};
 
 use crate::counts::date_at;
 use crate::dates::{day_number, day_refused};
-use rules::{Date, Dated, Numbered, Refusal};
+use rules::{Date, Refusal};
 use whole::is_between;
 
 pub mod counts;
@@ -19,19 +19,19 @@ mod years;
 // Given: any numbers.
 // Returned: -10227 to 36524, 0 for 2000-01-01; or refusal 1 or 2.
 // Rule: docs/RULES.md, "Dates".
-pub fn day_of(date: Date) -> Numbered
+pub fn day_of(date: Date) -> Result<i64, Refusal>
     ensures { result ≡ day_of date }
 {
-    let year = date.year as i64;
-    let month = date.month as i64;
-    let day = date.day as i64;
+    let year = i64::from(date.year);
+    let month = i64::from(date.month);
+    let day = i64::from(date.day);
     if !is_between(1972, 2099, year) {
-        return Numbered::Refused(Refusal::Year);
+        return Err(Refusal::Year);
     }
     if day_refused(year, month, day) {
-        return Numbered::Refused(Refusal::Day);
+        return Err(Refusal::Day);
     }
-    Numbered::Day(day_number(year, month, day))
+    Ok(day_number(date))
 }
 
 // The date of a day number.
@@ -39,11 +39,11 @@ pub fn day_of(date: Date) -> Numbered
 // Given: any number.
 // Returned: the date; or refusal 1.
 // Rule: docs/RULES.md, "Dates".
-pub fn date_of(n: i64) -> Dated
+pub fn date_of(n: i64) -> Result<Date, Refusal>
     ensures { result ≡ date_of n }
 {
     if !is_between(-10227, 36524, n) {
-        return Dated::Refused(Refusal::Year);
+        return Err(Refusal::Year);
     }
-    Dated::On(date_at(n + 10227))
+    Ok(date_at(n + 10227))
 }

@@ -1,9 +1,8 @@
 // Years and months: their lengths, and the days of the span before them.
 
-ghost use Rattle.std.specs.Prelude.{◌≡◌, ◌<◌, ◌≤◌, ◌-◌, pos, nat_abs, get_or, take};
+ghost use Rattle.std.specs.Prelude.{◌≡◌, ◌≤◌, ◌-◌, pos, nat_abs, cond, get_or, length, sum, take};
 ghost use Rattle.rules.specs.Years as rule;
 ghost use Rattle.laws.specs.Ranges.{InRange};
-ghost use Rattle.laws.specs.Calendar.{row};
 
 // Days per month, January to December: common years, leap years.
 const DAYS: [[u8; 12]; 2] = [
@@ -11,39 +10,43 @@ const DAYS: [[u8; 12]; 2] = [
     [31, 29, 31, 30, 31, 30, 31, 31, 30, 31, 30, 31],
 ];
 
-// The row of a year, as an index: 1 in a leap year, 0 in a common one.
-pub fn leap(year: i64) -> usize
-    ensures { result ≡ rule.leap (nat_abs year) }
+// Whether a year is a leap year.
+fn is_leap(year: i64) -> bool
+    ensures { cond result 1 0 ≡ rule.leap (nat_abs year) }
 {
-    if year % 4 != 0 {
-        return 0;
-    }
-    if year % 100 != 0 {
-        return 1;
-    }
-    if year % 400 != 0 { 0 } else { 1 }
+    year % 4 == 0 && (year % 100 != 0 || year % 400 == 0)
 }
 
-// The days of a month; months are counted from 0.
-pub fn month_days(leap: usize, month: usize) -> i64
-    requires { (leap < 2) × (month < 12) }
-    ensures { result ≡ pos (get_or (row leap) month 0) }
+// The days of each month of a year. Whether it is a leap year is the index, as docs/DECISIONS.md
+// has it under "Forms that document 01 names".
+pub fn months_of(year: i64) -> &'static [u8; 12]
+    ensures { result.now ≡ rule.months (nat_abs year) }
 {
-    DAYS[leap][month] as i64
+    &DAYS[usize::from(is_leap(year))]
+}
+
+// The days of a month of a year; months are counted from 1.
+pub fn month_days(year: i64, month: i64) -> i64
+    requires { InRange 1 12 month }
+    ensures { result ≡ pos (get_or (rule.months (nat_abs year)) (nat_abs month - 1) 0) }
+{
+    i64::from(months_of(year)[month as usize - 1])
+}
+
+// The days of some months.
+fn sum_of(months: &[u8]) -> i64
+    requires { sum months.now ≤ 366 }
+    ensures { result ≡ pos (sum months.now) }
+{
+    i64::from(months.iter().map(|days| u32::from(*days)).sum::<u32>())
 }
 
 // The days of the first months of a year.
-pub fn months_before(leap: usize, months: usize) -> i64
-    requires { (leap < 2) × (months ≤ 12) }
-    ensures { result ≡ pos (rule.sum (take months (row leap))) }
+pub fn months_before(year: i64, months: usize) -> i64
+    requires { months ≤ 12 }
+    ensures { result ≡ pos (rule.sum (take months (rule.months (nat_abs year)))) }
 {
-    let mut sum: i64 = 0;
-    let mut k: usize = 0;
-    while k < months {
-        sum += month_days(leap, k);
-        k += 1;
-    }
-    sum
+    sum_of(&months_of(year)[..months])
 }
 
 // The days of the span before a year: one leap year in four, and 2000 is one.

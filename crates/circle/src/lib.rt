@@ -21,5 +21,5 @@ pub fn pair(a: i64) -> Pair
 {
     let m = whole::on_circle(a);
     let p = quarters::pair_to_quarter(m % QUARTER);
-    quarters::in_quarter(m / QUARTER, p.cosine, p.sine)
+    quarters::in_quarter(m / QUARTER, p)
 }

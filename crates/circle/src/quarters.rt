@@ -14,6 +14,7 @@ use units::{HALF_QUARTER, QUARTER};
 const AT_HALF: i64 = 759250125;
 
 // The pair of r, from nought to a quarter: above half a quarter that of quarter - r, exchanged.
+// `UpTo` stays a clause, as in `series`.
 pub fn pair_to_quarter(r: i64) -> Pair
     requires { UpTo r quarter }
     ensures { result ≡ rule.pair_to_quarter rule.pair_to_half (nat_abs r) }
@@ -42,28 +43,25 @@ fn pair_to_half(r: i64) -> Pair
     parts::pair_of_parts(parts::radian_parts(r))
 }
 
-// (c, s) in the quarter q: (c, s), (-s, c), (-c, -s), (s, -c).
-pub fn in_quarter(q: i64, c: i64, s: i64) -> Pair
-    requires { QuarterGiven q (record { cosine = c; sine = s }) }
-    ensures { result ≡ rule.in_quarter (nat_abs q) (record { cosine = c; sine = s }) }
+// A pair (c, s) in the quarter q: (c, s), (-s, c), (-c, -s), (s, -c). The quarter is a number, as
+// division leaves it: to make a type of four quarters of it would take a `match` like this one.
+pub fn in_quarter(q: i64, pair: Pair) -> Pair
+    requires { QuarterGiven q pair }
+    ensures { result ≡ rule.in_quarter (nat_abs q) pair }
 {
-    if q == 0 {
-        return Pair { cosine: c, sine: s };
-    }
-    if q == 1 {
-        return Pair {
-            cosine: -s,
-            sine: c,
-        };
-    }
-    if q == 2 {
-        return Pair {
-            cosine: -c,
-            sine: -s,
-        };
-    }
-    Pair {
-        cosine: s,
-        sine: -c,
+    match q {
+        0 => pair,
+        1 => Pair {
+            cosine: -pair.sine,
+            sine: pair.cosine,
+        },
+        2 => Pair {
+            cosine: -pair.cosine,
+            sine: -pair.sine,
+        },
+        _ => Pair {
+            cosine: pair.sine,
+            sine: -pair.cosine,
+        },
     }
 }

@@ -1,2 +1,3 @@
 -- What the clauses of `decimals` cite.
 pub mod Refused
+pub mod Rooms

@@ -9,35 +9,15 @@ ghost use Rattle.entries_listing.specs.Listing as rule;
 
 use entries_read::read_list;
 use night_list::night_list;
-use rules::{Angles, Entry, Listed, Moment, Site, Star};
+use rules::{Entry, Moment, Refusal, Site};
 use units::MOST_RECORDS;
 
-// What a list answered, and the entries as it left them.
+// What a list answered, and the entries as it left them: no `Result` with entries in it, as `read`
+// and `work` promise those of a list that is refused too (`listing_read`, `listing_worked`).
 #[derive(Clone, Copy)]
 pub struct Listing {
-    pub answer: Listed,
+    pub answer: Result<usize, Refusal>,
     pub entries: [Entry; MOST_RECORDS],
-}
-
-// An entry of noughts.
-fn blank() -> Entry
-    ensures { result ≡ rule.blank }
-{
-    Entry {
-        star: Star {
-            ra: 0,
-            declination: 0,
-            ra_motion: 0,
-            declination_motion: 0,
-        },
-        mark: 0,
-        angles: Angles {
-            ra: 0,
-            declination: 0,
-            azimuth: 0,
-            altitude: 0,
-        },
-    }
 }
 
 // A list file read into as many entries as it may have.
@@ -49,7 +29,7 @@ fn blank() -> Entry
 pub fn read(file: &[u8]) -> Listing
     ensures { result ≡ rule.listing_read file.now }
 {
-    let mut entries = [blank(); MOST_RECORDS];
+    let mut entries = [Entry::default(); MOST_RECORDS];
     let answer = read_list(file, &mut entries);
     Listing { answer, entries }
 }

@@ -1,2 +1,2 @@
--- what the loop needs of its plan
+-- what the loop needs of its count
 pub mod Reading

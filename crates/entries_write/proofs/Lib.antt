@@ -1,2 +1,2 @@
--- what the loops need of plans
+-- what the loop needs of its length
 pub mod Writing

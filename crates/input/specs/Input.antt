@@ -1,21 +1,24 @@
 -- What is read of an input. Definitions only.
-use Rattle.std.specs.Prelude.{ℕ, ◌+◌, ◌≤◌, ◌≡◌, true, false, cond, List, [], ◌∷◌, eqb, length, take, drop}
+use Rattle.std.specs.Prelude.{ℕ, ◌+◌, ◌≤◌, ◌≡◌, cond, List, [], ◌∷◌, eqb, length, take, drop, IsOk, Result, Ok, Err}
 use Rattle.rules.specs.Times.{newline}
-use Rattle.input.specs.declared.Read.{Read}
 
 -- the first line of an input, with its end where it has one
 unfoldable pub line_with_end : List ℕ → List ℕ
 line_with_end [] = []
 line_with_end (b ∷ bs) = b ∷ cond (eqb b newline) [] (line_with_end bs)
 
--- of a file a reader keeps what the room holds
-pub record FileRead (r : Read) (room : List ℕ) : Type 0 where
-  pub within : r.length ≤ length room
-  pub failed : r.is_read ≡ false → r.length ≡ 0
+module _ {E : Type 0} where
+  -- how many bytes were read: none where the read failed
+  abbrev pub read_length : Result ℕ E → ℕ
+  read_length (Ok n) = n
+  read_length (Err e) = 0
 
--- of an input it keeps the first line, or what the room holds of it: no LF stands before the last byte that was read
-pub record LineRead (r : Read) (before room : List ℕ) : Type 0 where
-  pub within : r.length ≤ length room
-  pub line : line_with_end (take r.length room) ≡ take r.length room
-  pub kept : r.is_read ≡ true → drop (r.length + 1) room ≡ drop (r.length + 1) before
-  pub failed : r.is_read ≡ false → r.length ≡ 0
+  -- of a file a reader keeps what the room holds
+  pub record FileRead (r : Result ℕ E) (room : List ℕ) : Type 0 where
+    pub within : read_length r ≤ length room
+
+  -- of an input it keeps the first line, or what the room holds of it: no LF stands before the last byte that was read
+  pub record LineRead (r : Result ℕ E) (before room : List ℕ) : Type 0 where
+    pub within : read_length r ≤ length room
+    pub line : line_with_end (take (read_length r) room) ≡ take (read_length r) room
+    pub kept : IsOk r → drop (read_length r + 1) room ≡ drop (read_length r + 1) before

@@ -1,10 +1,9 @@
 -- A line read byte by byte: what has been passed, and how it ends; and what a reader leaves.
-use Rattle.std.specs.Prelude.{◌≡◌, refl, Bool, true, false, cond, List, [], ◌∷◌, ℕ, zero, suc, ◌+◌, ◌-◌, ◌≤◌, ◌<◌, eqb, length, take, drop, get_or}
+use Rattle.std.specs.Prelude.{Result, Ok, Err, IsErr, ◌≡◌, refl, Bool, true, false, cond, List, [], ◌∷◌, ℕ, zero, suc, ◌+◌, ◌-◌, ◌≤◌, ◌<◌, eqb, length, take, drop, get_or}
 use Rattle.std.proofs.Common.{sym, ap, ◌∙◌, arith, drop-drop, get_or-take, below_more, ne_eqb}
 use Rattle.std.proofs.lemmas.Bool.{false≢true}
 use borrow.Rule.Slice.PartMut.{mid_of, put_mid, same_len_mid, mid_len, take_put, drop_put}
 use Rattle.rules.specs.Times.{newline}
-use Rattle.input.specs.declared.Read.{Read}
 use Rattle.input.specs.Input.{line_with_end, FileRead, LineRead}
 
 -- no LF among so many first bytes
@@ -70,28 +69,23 @@ module _ (done : ℕ) (before room byte : List ℕ) (passed : Passed done before
 
 -- ---- a line that was read, and one that could not be
 
-pub line_read : (n : ℕ) (before room : List ℕ) → n ≤ length room
-    → ((k : ℕ) → k + 1 < n → get_or room k 0 ≡ newline → ⊥)
-    → drop (n + 1) room ≡ drop (n + 1) before
-    → LineRead (record { length = n; is_read = true }) before room
-line_read n before room h none kept = record {
-  within = h;
-  line = line_is n room none;
-  kept = λ e. kept;
-  failed = λ e. absurd (false≢true (sym e));
-}
+module _ {E : Type 0} where
+  pub line_read : (n : ℕ) (before room : List ℕ) → n ≤ length room
+      → ((k : ℕ) → k + 1 < n → get_or room k 0 ≡ newline → ⊥)
+      → drop (n + 1) room ≡ drop (n + 1) before
+      → LineRead {E = E} (Ok n) before room
+  line_read n before room h none kept = record { within = h; line = line_is n room none; kept = λ e. kept }
 
-pub line_failed : (r : Read) (before room : List ℕ) → r ≡ record { length = 0; is_read = false }
-    → LineRead r before room
-unfolding line_with_end
-line_failed r before room e =
-    rw e
-    (record { within = omega arith; line = refl; kept = λ f. absurd (false≢true f); failed = λ f. refl })
+  pub line_failed : (r : Result ℕ E) (before room : List ℕ) → IsErr r → LineRead r before room
+  unfolding line_with_end
+  line_failed (Ok n) before room e = absurd (false≢true e)
+  line_failed (Err e) before room f = record { within = omega arith; line = refl; kept = λ g. absurd (false≢true g) }
 
--- ---- the same of a file
+  -- ---- the same of a file
 
-pub file_read : (n : ℕ) (room : List ℕ) → n ≤ length room → FileRead (record { length = n; is_read = true }) room
-file_read n room h = record { within = h; failed = λ e. absurd (false≢true (sym e)) }
+  pub file_read : (n : ℕ) (room : List ℕ) → n ≤ length room → FileRead {E = E} (Ok n) room
+  file_read n room h = record { within = h }
 
-pub file_failed : (r : Read) (room : List ℕ) → r ≡ record { length = 0; is_read = false } → FileRead r room
-file_failed r room e = rw e (record { within = omega arith; failed = λ f. refl })
+  pub file_failed : (r : Result ℕ E) (room : List ℕ) → IsErr r → FileRead r room
+  file_failed (Ok n) room e = absurd (false≢true e)
+  file_failed (Err e) room f = record { within = omega arith }

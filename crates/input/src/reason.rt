@@ -1,44 +1,22 @@
 // Why the system refused, in its own words.
 
+use arrayvec::ArrayString;
 use std::fmt::Write;
 use std::{fmt, io};
+
+// More than std ever says: at most 256 bytes of words, and the error's number.
+const SAID_ROOM: usize = 320;
 
 // The words alone, where std adds the error's number after them.
 #[derive(Clone, Copy)]
 pub struct Reason(pub io::Error);
 
-// What std says, or its front.
-#[derive(Drop)]
-struct Said {
-    bytes: [u8; 256],
-    length: usize,
-}
-
-impl fmt::Write for Said {
-    fn write_str(&mut self, text: &str) -> fmt::Result {
-        for b in text.as_bytes() {
-            if self.length < 256 {
-                let at = self.length;
-                self.bytes[at] = *b;
-                self.length += 1;
-            }
-        }
-        Ok(())
-    }
-}
-
 impl fmt::Display for Reason {
     fn fmt<W: fmt::Write>(&self, f: &mut fmt::Formatter<W>) -> fmt::Result {
-        let mut said = Said {
-            bytes: [0; 256],
-            length: 0,
-        };
+        let mut said = ArrayString::<SAID_ROOM>::new();
         let error = self.0;
         write!(said, "{error}")?;
-        let end = said.length.min(256);
-        let Ok(text) = str::from_utf8(&said.bytes[..end]) else {
-            return f.write_str("");
-        };
+        let text = said.as_str();
         match text.split_once(" (os error ") {
             Some((words, _)) => f.write_str(words),
             None => f.write_str(text),

@@ -1,8 +1,7 @@
 -- Where a place has no right ascension or no azimuth, by the height beside it, and that its entry tells which angle is
 -- missing.
-use Rattle.std.specs.Prelude.{◌≡◌, ◌↔◌, nat_abs}
+use Rattle.std.specs.Prelude.{◌≡◌, ◌↔◌, nat_abs, None}
 use Rattle.rules.specs.declared.Direction.{Direction}
-use Rattle.rules.specs.declared.Read.{Read}
 use Rattle.rules.specs.declared.Star.{Star}
 use Rattle.rules.specs.declared.Night.{Night}
 use Rattle.rules.specs.Units.{quarter}
@@ -29,14 +28,14 @@ module _ (n : Night) (h : NightFits n) (s : Star) where
   w_accepted : Accepted (squares w)
   w_accepted = overhead_accepted n h v v_accepted
 
-  pub no_ra_by_declination : (place_in n s).ra ≡ Read.NoAngle ↔ nat_abs (place_in n s).declination ≡ quarter
+  pub no_ra_by_declination : (place_in n s).ra ≡ None ↔ nat_abs (place_in n s).declination ≡ quarter
   unfolding place_in readings
   no_ra_by_declination =
       let i = no_ra_iff n s in
       let q = quarter_iff v v_accepted in
       (λ e. q.1 (i.0 e), λ e. i.1 (q.0 e))
 
-  pub no_azimuth_by_altitude : (place_in n s).azimuth ≡ Read.NoAngle ↔ nat_abs (place_in n s).altitude ≡ quarter
+  pub no_azimuth_by_altitude : (place_in n s).azimuth ≡ None ↔ nat_abs (place_in n s).altitude ≡ quarter
   unfolding place_in readings
   no_azimuth_by_altitude =
       let i = no_azimuth_iff n s in

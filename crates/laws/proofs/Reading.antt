@@ -1,6 +1,6 @@
 -- The two promises of a reading, of every (h, v) that has an angle, with the pair of the answer (docs/MATHEMATICS.md,
 -- "The whole circle of a reading"): from the first octant to the whole circle, by the laws of angles.
-use Rattle.std.specs.Prelude.{◌≡◌, refl, Bool, true, false, cond, [], ◌∷◌, ℕ, suc, ◌+◌, ◌≤◌, ◌<◌, ℤ, pos, negsuc, neg_ℤ, nat_abs, ◌-ℤ◌, ◌*ℤ◌}
+use Rattle.std.specs.Prelude.{◌≡◌, refl, Bool, true, false, cond, [], ◌∷◌, ℕ, suc, ◌+◌, ◌≤◌, ◌<◌, ℤ, pos, negsuc, neg_ℤ, nat_abs, ◌-ℤ◌, ◌*ℤ◌, Some}
 use Rattle.std.proofs.Common.{sym, ap, ◌∙◌, lt_of_not-le, arith}
 use Rattle.std.proofs.Math.Decide.{dec_le}
 use Rattle.std.proofs.Math.IntN.{+ℤ_comm}
@@ -9,7 +9,6 @@ use Rattle.integers.specs.Difference.{pos_part, neg_part, eq_of_parts, lt_z_fals
 use Rattle.integers.specs.Size.{abs_neg}
 use Rattle.integers.specs.Ring.{ring, v0, v1, v2, v3, ◌⊕◌, ◌⊖◌, ◌⊗◌, neg}
 use Rattle.rules.specs.Units.{circle, half}
-use Rattle.rules.specs.declared.Read.{Read}
 use Rattle.rules.specs.declared.Pair.{Pair}
 use Rattle.rules.specs.Circle.{pair}
 use Rattle.rules.specs.Reading.{angle_to_half, angle_to_quarter, by_signs, not_circle, angle_of, reading, Reads}
@@ -106,7 +105,7 @@ angle_points h v k =
     let i = by_signs_range h v θ (angle_to_quarter_range (nat_abs h) (nat_abs v) k) in
     rw (not_circle_pair (by_signs h v θ) i) (signs_points h v θ (quarter_points (nat_abs h) (nat_abs v) k))
 
-pub reading_reads : (h v a : ℤ) → reading h v ≡ Read.Angle a → Reads h v a
+pub reading_reads : (h v a : ℤ) → reading h v ≡ Some a → Reads h v a
 reading_reads h v a e =
     let k = angled h v a e in
     let p = angle_points h v k.some in

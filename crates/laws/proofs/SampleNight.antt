@@ -1,8 +1,7 @@
 -- The night of `SampleNight`, to the last unit, and the same evening on the meridian of `here`.
-use Rattle.std.specs.Prelude.{◌≡◌, ℤ, pos, ◌-ℤ◌}
+use Rattle.std.specs.Prelude.{◌≡◌, ℤ, pos, ◌-ℤ◌, Ok}
 use Rattle.std.proofs.Common.{ap, ◌∙◌}
 use Rattle.rules.specs.declared.Pair.{Pair}
-use Rattle.rules.specs.declared.Prepared.{Prepared}
 use Rattle.rules.specs.Units.{quarter, between, within}
 use Rattle.rules.specs.Rounding.{remainder}
 use Rattle.rules.specs.Circle.{pair}
@@ -18,9 +17,9 @@ night_is = in_parts
     ∙ ap (night_by nutation_tonight sun_tonight) parts_are.perihelion
     ∙ parts_are.all
 
-pub made_ready : night_of evening here ≡ Prepared.For tonight
+pub made_ready : night_of evening here ≡ Ok tonight
 unfolding night_of night_at site_refused between within
-made_ready = ap (λ i. night_at i here) evening_is ∙ ap Prepared.For night_is
+made_ready = ap (λ i. night_at i here) evening_is ∙ ap Ok night_is
 
 pub night_north : (latitude : ℤ) (p : Pair) → pair (remainder (latitude -ℤ pos quarter)) ≡ p
     → night ut_now tt_now (north_of latitude) ≡ tonight_by p

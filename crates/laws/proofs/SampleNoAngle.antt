@@ -1,6 +1,5 @@
 -- The three places of `SampleNoAngle`, to the last unit.
-use Rattle.std.specs.Prelude.{◌≡◌, refl}
-use Rattle.rules.specs.declared.Placed.{Placed}
+use Rattle.std.specs.Prelude.{◌≡◌, refl, Ok}
 use Rattle.rules.specs.Units.{+◌, −◌, between, within}
 use Rattle.rules.specs.Rounding.{rnd, rnd_size, modulo, remainder}
 use Rattle.rules.specs.Length.{root_from, root, square, pair_squares, squares, part_to, pair_to_length, to_length}
@@ -21,11 +20,11 @@ pole_place_lem = place_of_steps tonight pole_star all_steps.pole
 pub zenith_place_lem : place_in zenith_night zenith_star ≡ zenith_place
 zenith_place_lem = place_of_steps zenith_night zenith_star all_steps.zenith
 
-pub pole_stands : place evening pole_star here ≡ Placed.At pole_place
+pub pole_stands : place evening pole_star here ≡ Ok pole_place
 unfolding star_refused site_refused between within
 pole_stands = stands here tonight pole_star refl night_is refl pole_place_lem
 
-pub zenith_stands : place evening zenith_star zenith_site ≡ Placed.At zenith_place
+pub zenith_stands : place evening zenith_star zenith_site ≡ Ok zenith_place
 unfolding star_refused site_refused between within rnd rnd_size modulo remainder root_from root square squares part_to
     to_length radian_parts square_parts stage stages raw_sine raw_cosine pair_squares pair_to_length pair_of_parts pair_to_half
     exchanged_pair pair_to_quarter in_quarter folded pair
@@ -34,7 +33,7 @@ zenith_stands =
     (night_north (+ 180315000000) (pair_of (+ 823587028) (− 688930993)) refl)
     refl zenith_place_lem
 
-pub pole_and_zenith_stand : place evening pole_star pole_site ≡ Placed.At pole_and_zenith
+pub pole_and_zenith_stand : place evening pole_star pole_site ≡ Ok pole_and_zenith
 unfolding star_refused site_refused between within rnd rnd_size modulo remainder root_from root square squares part_to
     to_length radian_parts square_parts stage stages raw_sine raw_cosine pair_squares pair_to_length pair_of_parts pair_to_half
     exchanged_pair pair_to_quarter in_quarter folded pair

@@ -1,6 +1,5 @@
 -- The two places of `SamplePlace`, to the last unit.
-use Rattle.std.specs.Prelude.{◌≡◌, refl}
-use Rattle.rules.specs.declared.Placed.{Placed}
+use Rattle.std.specs.Prelude.{◌≡◌, refl, Ok}
 use Rattle.rules.specs.Units.{between, within}
 use Rattle.rules.specs.Night.{site_refused}
 use Rattle.rules.specs.Stars.{star_refused}
@@ -16,10 +15,10 @@ sirius_place_lem = place_of_steps tonight sirius sirius_steps
 pub equinox_place_lem : place_in tonight equinox ≡ equinox_place
 equinox_place_lem = place_of_steps tonight equinox equinox_steps
 
-pub sirius_stands : place evening sirius here ≡ Placed.At sirius_place
+pub sirius_stands : place evening sirius here ≡ Ok sirius_place
 unfolding star_refused site_refused between within
 sirius_stands = stands here tonight sirius refl night_is refl sirius_place_lem
 
-pub equinox_stands : place evening equinox here ≡ Placed.At equinox_place
+pub equinox_stands : place evening equinox here ≡ Ok equinox_place
 unfolding star_refused site_refused between within
 equinox_stands = stands here tonight equinox refl night_is refl equinox_place_lem

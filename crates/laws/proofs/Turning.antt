@@ -1,12 +1,11 @@
 -- A turn about any axis: an accepted direction stays accepted, the length to be divided by is never nought, refusal 13
 -- never comes, and the opposite turn leads back.
-use Rattle.std.specs.Prelude.{◌≡◌, false, ℕ, ◌+◌, ◌*◌, ◌≤◌, ◌<◌, ◌^◌, ℤ, neg_ℤ}
+use Rattle.std.specs.Prelude.{◌≡◌, false, ℕ, ◌+◌, ◌*◌, ◌≤◌, ◌<◌, ◌^◌, ℤ, neg_ℤ, Ok}
 use Rattle.std.proofs.Common.{sym, ap, ◌∙◌, arith}
 use Rattle.std.proofs.Math.Path.{subst}
 use borrow.Author.Tests.{ne_eqb}
 use Rattle.rules.specs.declared.Pair.{Pair}
 use Rattle.rules.specs.declared.Direction.{Direction}
-use Rattle.rules.specs.declared.Turned.{Turned}
 use Rattle.rules.specs.Units.{+◌}
 use Rattle.rules.specs.Length.{squares, pair_squares, root, to_length, length_refused, brought_to_length}
 use Rattle.rules.specs.Turning.{Accepted, turn3, exchanged, turn_about, turn_by, turn, turn_refused, turned}
@@ -94,7 +93,7 @@ turn_accepted axis angle v h = turn_by_accepted axis (pair angle) v (pair_length
 
 -- an accepted turn of an accepted direction is answered
 pub turned_accepted : (axis angle : ℤ) (v : Direction) → Accepted (squares v) → turn_refused axis angle ≡ false
-    → turned axis angle v ≡ Turned.To (turn axis angle v)
+    → turned axis angle v ≡ Ok (turn axis angle v)
 unfolding turned turn turn_by brought_to_length
 turned_accepted axis angle v h e =
     rw (accepted_not_refused v h, e, turn_about_not_refused axis (pair angle) v (pair_length angle) h)

@@ -1,11 +1,10 @@
 -- Lists of turns: every turn of an accepted direction is answered and accepted, and the opposite turns in reverse order
 -- lead back to where the direction began.
-use Rattle.std.specs.Prelude.{◌≡◌, refl, suc, ◌+◌, ◌*◌, ◌≤◌, length, neg_ℤ}
+use Rattle.std.specs.Prelude.{◌≡◌, refl, suc, ◌+◌, ◌*◌, ◌≤◌, length, neg_ℤ, Ok, ℤ}
 use Rattle.std.proofs.Common.{sym, ap, ◌∙◌, subst, arith}
 use mathlib.Core.List.{List, [], ◌∷◌, ◌++◌}
 use Rattle.integers.specs.Square.{square_le_of_le}
 use Rattle.rules.specs.declared.Direction.{Direction}
-use Rattle.rules.specs.declared.Turned.{Turned}
 use Rattle.rules.specs.Units.{+◌}
 use Rattle.rules.specs.Length.{squares}
 use Rattle.rules.specs.Turning.{Accepted, turn}
@@ -20,7 +19,7 @@ turns_accepted [] v h = h
 turns_accepted (t ∷ ts) v h = turns_accepted ts (turn t.axis t.angle v) (turn_accepted t.axis t.angle v h)
 
 turned_by_is : (ts : List Turn) → AcceptedTurns ts → (v : Direction) → Accepted (squares v)
-    → turned_by ts (Turned.To v) ≡ Turned.To (turns ts v)
+    → turned_by ts (Ok v) ≡ Ok (turns ts v)
 turned_by_is [] none v h = refl
 turned_by_is (t ∷ ts) (more k ks) v h =
     ap (turned_by ts) (turned_accepted t.axis t.angle v h k)
@@ -28,7 +27,7 @@ turned_by_is (t ∷ ts) (more k ks) v h =
 
 -- no turn of a list is refused, and what the last one answers is accepted
 pub turned_by_accepted : (ts : List Turn) → AcceptedTurns ts → (v : Direction) → Accepted (squares v)
-    → Answers (λ w. Accepted (squares w)) (turned_by ts (Turned.To v))
+    → Answers (λ w. Accepted (squares w)) (turned_by ts (Ok v))
 turned_by_accepted ts ks v h =
     record { direction = turns ts v; answer = turned_by_is ts ks v h; holds = turns_accepted ts v h }
 
@@ -51,12 +50,12 @@ returned_le (t ∷ ts) l v h =
 -- there and back: each component within 24 for each turn
 pub way_back_near : (ts : List Turn) → AcceptedTurns ts → length ts ≤ most_turns
     → (v : Direction) → Accepted (squares v)
-    → Answers (λ w. Within (24 * length ts) w v) (turned_by (ts ++ way_back ts) (Turned.To v))
+    → Answers (λ w. Within (24 * length ts) w v) (turned_by (ts ++ way_back ts) (Ok v))
 way_back_near ts ks l v h =
     let n = parts_le (minus (turns (way_back ts) (turns ts v)) v) (24 * length ts) (returned_le ts l v h) in
     record {
       direction = turns (way_back ts) (turns ts v);
       answer = turned_by_is (ts ++ way_back ts) (append_accepted ts ks (way_back_accepted ts ks)) v h
-          ∙ ap Turned.To (turns_append ts (way_back ts) v);
+          ∙ ap Ok (turns_append ts (way_back ts) v);
       holds = record { x = n.x; y = n.y; z = n.z };
     }

@@ -1,5 +1,5 @@
 -- Accepted UTC times as ms of the span: TT counts them from the first on.
-use Rattle.std.specs.Prelude.{◌≡◌, Bool, true, cond, ℕ, ◌+◌, ◌*◌, ◌<◌, ℤ, pos, neg_ℤ, nat_abs}
+use Rattle.std.specs.Prelude.{◌≡◌, Bool, true, cond, ℕ, ◌+◌, ◌*◌, ◌<◌, ℤ, pos, neg_ℤ, nat_abs, Ok}
 use Rattle.std.proofs.Common.{sym, ap, ◌∙◌, ⊎_elim, arith}
 use Rattle.integers.specs.Difference.{IsDifference, add_is}
 use Rattle.rules.specs.declared.Ut.{Ut}
@@ -19,6 +19,7 @@ use Rattle.laws.specs.TimeOfDay.{TimeExists, time_accepted_iff}
 use Rattle.laws.specs.Dates.{tells, instants_accepted}
 use Rattle.laws.specs.Instants.{range_of, RealTime, real_time, ms_count, utc_parts}
 use Rattle.laws.specs.Days.{day_on, tai_on, ms_before, ms_on, ms_before_is}
+use Rattle.rules.specs.Dates.{ut_and_tt}
 
 -- ---- accepted
 
@@ -36,9 +37,9 @@ pub accepted_time : (u : Utc) → AcceptedUtc u → RealTime u.time
 accepted_time u a = real_time (day_number u.date) u.time a.time
 
 -- its instants are answered
-pub of_instants : (m : Moment) (v : Ut) (t : Tt) → instants m ≡ Instants.At v t → AcceptedUtc (utc_of m)
+pub of_instants : (m : Moment) (v : Ut) (t : Tt) → instants m ≡ Ok (ut_and_tt v t) → AcceptedUtc (utc_of m)
 of_instants m v t e =
-    let p = tells m (Instants.At v t) e in
+    let p = tells m (Ok (ut_and_tt v t)) e in
     record {
       year = (year_accepted_iff m.date).0 p.0;
       day = (day_accepted_iff m.date).0 p.1.0;
@@ -46,7 +47,7 @@ of_instants m v t e =
     }
 
 pub instants_of_lem : (u : Utc) (d : ℤ) → AcceptedUtc u → Between (neg_ℤ (pos 900)) (pos 900) d
-    → instants (moment_with u d) ≡ Instants.At (ut_of (moment_with u d)) (tt_of (moment_with u d))
+    → instants (moment_with u d) ≡ Ok (ut_and_tt (ut_of (moment_with u d)) (tt_of (moment_with u d)))
 instants_of_lem u d a h = (instants_accepted (moment_with u d)).1 (a.year, (a.day, (a.time, h)))
 
 -- ---- the ms of the span before it

@@ -1,9 +1,8 @@
 -- The list file and its stars: the file of the stars of a file is that file, and the stars of the file of some stars are
 -- those stars.
-use Rattle.std.specs.Prelude.{◌≡◌, refl, false, List, [], ◌∷◌, ◌++◌, ℕ, zero, suc, ◌+◌, ◌*◌, ◌≤◌, length, take, drop}
+use Rattle.std.specs.Prelude.{◌≡◌, refl, false, List, [], ◌∷◌, ◌++◌, ℕ, zero, suc, ◌+◌, ◌*◌, ◌≤◌, length, take, drop, Ok}
 use Rattle.std.proofs.Common.{sym, ◌∙◌, ap, append_assoc, append-nil, arith, length-drop, length-append, take-add, drop_at, take_all, le-leb}
 use Rattle.rules.specs.declared.Star.{Star}
-use Rattle.rules.specs.declared.Listed.{Listed}
 use Rattle.rules.specs.Bytes.{of_bytes, bytes_of, part, unsigned_at, signed_at, signed_bytes, same_bytes}
 use Rattle.rules.specs.ListFile.{mark, count_in, file_length, star_in, record_of, stars_in, stars, any_refused, record_at}
 use Rattle.rules.specs.ListReading.{mark_refused, count_refused, list_count}
@@ -128,7 +127,7 @@ stars_kept ss l fits =
 
 -- the file of accepted stars is accepted, with their count
 pub file_kept_lem : (ss : List Star) → length ss ≤ most_records → any_refused ss ≡ false
-    → list_count (file_of ss) ≡ Listed.Count (length ss)
+    → list_count (file_of ss) ≡ Ok (length ss)
 file_kept_lem ss l a =
     file_counted (file_of ss) (mark_again ss) (count_kept ss l) (ap any_refused (stars_kept ss l (all_fit ss a)) ∙ a)
-    ∙ ap Listed.Count (count_again ss l)
+    ∙ ap Ok (count_again ss l)

@@ -1,15 +1,11 @@
 -- Refusal 12: every angle of an instant is refused exactly when the instant is outside −Q to Q, and else given.
-use Rattle.std.specs.Prelude.{◌≡◌, refl, ◌↔◌, Bool, true, false, not, cond, ℕ, ◌≤◌, ◌<◌, T, ℤ, nat_abs}
+use Rattle.std.specs.Prelude.{◌≡◌, refl, ◌↔◌, Bool, true, false, not, cond, ℕ, ◌≤◌, ◌<◌, T, ℤ, nat_abs, Result, Ok, Err}
 use Rattle.std.proofs.Common.{sym, ap, subst, ◌∙◌, lt_of_not-le, arith}
 use Rattle.std.proofs.Math.Decide.{dec_lt}
 use Rattle.std.proofs.lemmas.Bool.{not-false}
 use Rattle.rules.specs.declared.Tt.{Tt}
 use Rattle.rules.specs.declared.Ut.{Ut}
 use Rattle.rules.specs.declared.Refusal.{Refusal}
-use Rattle.rules.specs.declared.Angle.{Angle}
-use Rattle.rules.specs.declared.Precessed.{Precessed}
-use Rattle.rules.specs.declared.FiveArguments.{FiveArguments}
-use Rattle.rules.specs.declared.Nutated.{Nutated}
 use Rattle.rules.specs.Units.{century, within}
 use Rattle.rules.specs.Polynomials.{instant_refused, angle_at}
 use Rattle.rules.specs.Precession.{precession, precession_at, obliquity, obliquity_at}
@@ -18,6 +14,9 @@ use Rattle.rules.specs.Nutation.{nutation, nutation_at}
 use Rattle.rules.specs.Sun.{sun_longitude, sun_longitude_at, perihelion, perihelion_at}
 use Rattle.rules.specs.Sidereal.{sidereal, sidereal_at}
 use Rattle.laws.specs.Units.{within_le, within_of}
+use Rattle.rules.specs.declared.Precession.{Precession}
+use Rattle.rules.specs.declared.Arguments.{Arguments}
+use Rattle.rules.specs.declared.Nutation.{Nutation}
 
 -- an instant from −Q to Q
 abbrev pub InRange : ℤ → Type 0
@@ -69,37 +68,37 @@ refused_outside A t refused given apart = by (instant_refused t) refl
     }
 
 pub record EachRefusedOutside (t : Tt) (u : Ut) : Type 0 where
-  pub precession : RefusedOutside Precessed t.0 (precession_at t) (Precessed.Refused Refusal.Instant)
-      (Precessed.By (precession t))
-  pub obliquity : RefusedOutside Angle t.0 (obliquity_at t) (Angle.Refused Refusal.Instant) (Angle.Of (obliquity t))
-  pub arguments : RefusedOutside FiveArguments t.0 (arguments_at t) (FiveArguments.Refused Refusal.Instant)
-      (FiveArguments.By (arguments t))
-  pub nutation : RefusedOutside Nutated t.0 (nutation_at t) (Nutated.Refused Refusal.Instant)
-      (Nutated.By (nutation t))
-  pub sun : RefusedOutside Angle t.0 (sun_longitude_at t) (Angle.Refused Refusal.Instant) (Angle.Of (sun_longitude t))
-  pub perihelion : RefusedOutside Angle t.0 (perihelion_at t) (Angle.Refused Refusal.Instant)
-      (Angle.Of (perihelion t))
-  pub sidereal : RefusedOutside Angle u.0 (sidereal_at u) (Angle.Refused Refusal.Instant) (Angle.Of (sidereal u))
+  pub precession : RefusedOutside (Result Precession Refusal) t.0 (precession_at t) (Err Refusal.Instant)
+      (Ok (precession t))
+  pub obliquity : RefusedOutside (Result ℤ Refusal) t.0 (obliquity_at t) (Err Refusal.Instant) (Ok (obliquity t))
+  pub arguments : RefusedOutside (Result Arguments Refusal) t.0 (arguments_at t) (Err Refusal.Instant)
+      (Ok (arguments t))
+  pub nutation : RefusedOutside (Result Nutation Refusal) t.0 (nutation_at t) (Err Refusal.Instant)
+      (Ok (nutation t))
+  pub sun : RefusedOutside (Result ℤ Refusal) t.0 (sun_longitude_at t) (Err Refusal.Instant) (Ok (sun_longitude t))
+  pub perihelion : RefusedOutside (Result ℤ Refusal) t.0 (perihelion_at t) (Err Refusal.Instant)
+      (Ok (perihelion t))
+  pub sidereal : RefusedOutside (Result ℤ Refusal) u.0 (sidereal_at u) (Err Refusal.Instant) (Ok (sidereal u))
 
-never : (r : Refusal) (a : ℤ) → Angle.Refused r ≡ Angle.Of a → ⊥
+never : (r : Refusal) (a : ℤ) → Err r ≡ Ok a → ⊥
 never r a e = let z : ◌≡◌ {A = ℕ} 0 1 = cc in omega arith
 
 pub each_refused_outside : (t : Tt) (u : Ut) → EachRefusedOutside t u
 unfolding precession_at obliquity_at arguments_at nutation_at sun_longitude_at perihelion_at sidereal_at angle_at
 each_refused_outside t u = record {
-  precession = refused_outside Precessed t.0 (Precessed.Refused Refusal.Instant) (Precessed.By (precession t))
+  precession = refused_outside (Result Precession Refusal) t.0 (Err Refusal.Instant) (Ok (precession t))
       (λ e. let z : ◌≡◌ {A = ℕ} 0 1 = cc in omega arith);
-  obliquity = refused_outside Angle t.0 (Angle.Refused Refusal.Instant) (Angle.Of (obliquity t))
+  obliquity = refused_outside (Result ℤ Refusal) t.0 (Err Refusal.Instant) (Ok (obliquity t))
       (never Refusal.Instant (obliquity t));
-  arguments = refused_outside FiveArguments t.0 (FiveArguments.Refused Refusal.Instant)
-      (FiveArguments.By (arguments t))
+  arguments = refused_outside (Result Arguments Refusal) t.0 (Err Refusal.Instant)
+      (Ok (arguments t))
       (λ e. let z : ◌≡◌ {A = ℕ} 0 1 = cc in omega arith);
-  nutation = refused_outside Nutated t.0 (Nutated.Refused Refusal.Instant) (Nutated.By (nutation t))
+  nutation = refused_outside (Result Nutation Refusal) t.0 (Err Refusal.Instant) (Ok (nutation t))
       (λ e. let z : ◌≡◌ {A = ℕ} 0 1 = cc in omega arith);
-  sun = refused_outside Angle t.0 (Angle.Refused Refusal.Instant) (Angle.Of (sun_longitude t))
+  sun = refused_outside (Result ℤ Refusal) t.0 (Err Refusal.Instant) (Ok (sun_longitude t))
       (never Refusal.Instant (sun_longitude t));
-  perihelion = refused_outside Angle t.0 (Angle.Refused Refusal.Instant) (Angle.Of (perihelion t))
+  perihelion = refused_outside (Result ℤ Refusal) t.0 (Err Refusal.Instant) (Ok (perihelion t))
       (never Refusal.Instant (perihelion t));
-  sidereal = refused_outside Angle u.0 (Angle.Refused Refusal.Instant) (Angle.Of (sidereal u))
+  sidereal = refused_outside (Result ℤ Refusal) u.0 (Err Refusal.Instant) (Ok (sidereal u))
       (never Refusal.Instant (sidereal u));
 }

@@ -1,7 +1,8 @@
 -- UT and TT: of every accepted moment they lie within a Julian century of J2000.0, so that refusal 12 cannot come from
 -- a date.
-use Rattle.std.specs.Prelude.{◌≡◌, refl, false, ℕ, ◌+◌, ◌*◌, ◌≤◌, ℤ, pos, nat_abs, ◌+ℤ◌, ◌-ℤ◌, ◌*ℤ◌}
-use Rattle.std.proofs.Common.{⊎_elim, arith}
+use Rattle.std.specs.Prelude.{◌≡◌, refl, false, ℕ, ◌+◌, ◌*◌, ◌≤◌, ℤ, pos, nat_abs, ◌+ℤ◌, ◌-ℤ◌, ◌*ℤ◌, Ok}
+use Rattle.std.proofs.Common.{⊎_elim, ap, arith}
+use Rattle.std.proofs.lemmas.Result.{IfOk-at_ok}
 use Rattle.integers.specs.Difference.{IsDifference, add_is, sub_is, mul_is}
 use Rattle.integers.specs.Size.{abs_is, abs_le}
 use Rattle.rules.specs.declared.Ut.{Ut}
@@ -19,6 +20,7 @@ use Rattle.laws.specs.DayNumbers.{real_count_lt}
 use Rattle.laws.specs.Seconds.{tai_le}
 use Rattle.laws.specs.TimeOfDay.{TimeExists, time_accepted_iff}
 use Rattle.laws.specs.Dates.{ut1_minus_utc_accepted_iff, tells}
+use Rattle.rules.specs.Dates.{ut_and_tt}
 
 -- ---- a time of day, in naturals
 
@@ -129,19 +131,20 @@ tt_of_within m r =
 
 -- ---- the same of answers
 
-pub instants_real : (m : Moment) (u : Ut) (t : Tt) → instants m ≡ Instants.At u t → RealMoment m
+pub instants_real : (m : Moment) (u : Ut) (t : Tt) → instants m ≡ Ok (ut_and_tt u t) → RealMoment m
 instants_real m u t e =
-    let p = tells m (Instants.At u t) e in real_moment m p.0 p.1.0 p.1.1.0 p.1.1.1
+    let p = tells m (Ok (ut_and_tt u t)) e in real_moment m p.0 p.1.0 p.1.1.0 p.1.1.1
 
-pub instants_at_lem : (m : Moment) (u : Ut) (t : Tt) → instants m ≡ Instants.At u t → (ut_of m ≡ u) × (tt_of m ≡ t)
+pub instants_at_lem : (m : Moment) (u : Ut) (t : Tt) → instants m ≡ Ok (ut_and_tt u t) → (ut_of m ≡ u) × (tt_of m ≡ t)
 unfolding instants
 instants_at_lem m u t e =
-    let p = tells m (Instants.At u t) e in
-    let q : Instants.At (ut_of m) (tt_of m) ≡ Instants.At u t = rw (p.0, p.1.0, p.1.1.0, p.1.1.1) at e in
-    ((cc), (cc))
+    let p = tells m (Ok (ut_and_tt u t)) e in
+    let q : Ok (ut_and_tt (ut_of m) (tt_of m)) ≡ Ok (ut_and_tt u t) = rw (p.0, p.1.0, p.1.1.0, p.1.1.1) at e in
+    let same = IfOk-at_ok (λ i. ut_and_tt (ut_of m) (tt_of m) ≡ i) q refl in
+    (ap (λ i. i.ut) same, ap (λ i. i.tt) same)
 
-pub ut_within : (m : Moment) (u : Ut) (t : Tt) → instants m ≡ Instants.At u t → nat_abs u.0 ≤ century
+pub ut_within : (m : Moment) (u : Ut) (t : Tt) → instants m ≡ Ok (ut_and_tt u t) → nat_abs u.0 ≤ century
 ut_within m u t e = rw (← (instants_at_lem m u t e).0) (ut_of_within m (instants_real m u t e))
 
-pub tt_within : (m : Moment) (u : Ut) (t : Tt) → instants m ≡ Instants.At u t → nat_abs t.0 ≤ century
+pub tt_within : (m : Moment) (u : Ut) (t : Tt) → instants m ≡ Ok (ut_and_tt u t) → nat_abs t.0 ≤ century
 tt_within m u t e = rw (← (instants_at_lem m u t e).1) (tt_of_within m (instants_real m u t e))

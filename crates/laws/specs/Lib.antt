@@ -1,5 +1,6 @@
 -- What is known of the rules, free of machine words. A file has the name of the rules it is about.
 -- Endings: -neg odd, -near error, -le size, -one no second, -nearest and -root meet the relation, -of-H from H.
+pub mod PassedUp
 pub mod RefusalNumbers
 pub mod Refusals
 pub mod PlaceAnswers

@@ -1,9 +1,8 @@
 -- The line of `times`: how it is read byte by byte, how long it can be, and that it is told by its first 30 bytes.
-use Rattle.std.specs.Prelude.{◌≡◌, refl, Bool, true, false, cond, ◌&&◌, List, [], ◌∷◌, ℕ, zero, suc, ◌+◌, ◌-◌, ◌*◌, ◌^◌, ◌≤◌, ◌<◌, eqb, leb, ltb, length, take, drop, get_or}
+use Rattle.std.specs.Prelude.{◌≡◌, refl, Bool, true, false, cond, ◌&&◌, List, [], ◌∷◌, ℕ, zero, suc, ◌+◌, ◌-◌, ◌*◌, ◌^◌, ◌≤◌, ◌<◌, eqb, leb, ltb, length, take, drop, get_or, None}
 use Rattle.std.proofs.Common.{sym, ap, ◌∙◌, add-one, arith, leb→le, length-take, length-drop, drop-cons, take_all, leb-true, le-leb, ltb-true, ltb-false}
 use Rattle.std.proofs.lemmas.List.{length-replicate}
 use Rattle.std.proofs.lemmas.Bool.{lt-leb}
-use Rattle.rules.specs.declared.Line.{Line}
 use Rattle.rules.specs.Numerals.{nought, hyphen, is_digit, digits, alike, of_form, negative, unsigned, of_digits}
 use Rattle.rules.specs.Lines.{form}
 use Rattle.rules.specs.Numerals.{of_number, spelled}
@@ -138,7 +137,7 @@ both_false : (a b : Bool) → b ≡ false → a && b ≡ false
 both_false true b e = e
 both_false false b e = refl
 
-pub long_other : (line : List ℕ) → 30 ≤ length line → line_of line ≡ Line.Other
+pub long_other : (line : List ℕ) → 30 ≤ length line → line_of line ≡ None
 unfolding line_of
 long_other line h =
     rw (both_false (of_form form (take 24 line)) (of_number 4 (drop 24 line))

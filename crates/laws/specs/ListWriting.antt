@@ -1,28 +1,27 @@
 -- What a writer of a list file answers, exactly when, in the order 5, 11; of entries, and of a row of numbers.
-use Rattle.std.specs.Prelude.{◌≡◌, refl, Bool, true, false, not, List, ℕ, ◌%◌, ◌<◌, ◌≤◌, length, eqb, ltb, ℤ}
+use Rattle.std.specs.Prelude.{◌≡◌, refl, Bool, true, false, not, List, ℕ, ◌%◌, ◌<◌, ◌≤◌, length, eqb, ltb, ℤ, Ok, Err}
 use Rattle.std.proofs.Common.{◌∙◌, ap, arith, lt-ltb, le-ltb, ltb-false, eqb-true, eq-eqb, ne_eqb}
 use Rattle.std.proofs.lemmas.Bool.{not-false}
 use Rattle.rules.specs.declared.Entry.{Entry}
 use Rattle.rules.specs.declared.Refusal.{Refusal}
-use Rattle.rules.specs.declared.Listed.{Listed}
 use Rattle.rules.specs.ListFile.{most_records, file_length, any_refused}
 use Rattle.rules.specs.ListWriting.{stars_of, room_refused, written_of, list_written, numbers_written}
 use Rattle.rules.specs.ListWriting.{star_from, count_from, number_stars, row_refused}
 use Rattle.laws.specs.Records.{or_false, stars_from_each, each_length}
 
-writes_case : (a b : Bool) (n : ℕ) → a ≡ false → b ≡ false → written_of a b n ≡ Listed.Count (file_length n)
+writes_case : (a b : Bool) (n : ℕ) → a ≡ false → b ≡ false → written_of a b n ≡ Ok (file_length n)
 unfolding written_of
 writes_case a b n e f = rw (e, f)
 
 pub write_counted : (entries : List Entry) (room : List ℕ) → any_refused (stars_of entries) ≡ false → length entries ≤ most_records
-    → file_length (length entries) ≤ length room → list_written entries room ≡ Listed.Count (file_length (length entries))
+    → file_length (length entries) ≤ length room → list_written entries room ≡ Ok (file_length (length entries))
 unfolding list_written room_refused
 write_counted entries room a l h =
     let few = le-ltb most_records (length entries) l in
     let fits = le-ltb (length room) (file_length (length entries)) h in
     writes_case (any_refused (stars_of entries)) _ (length entries) a (rw few fits)
 
-written_case : (a b : Bool) (n size : ℕ) → written_of a b n ≡ Listed.Count size
+written_case : (a b : Bool) (n size : ℕ) → written_of a b n ≡ Ok size
     → (a ≡ false) × ((b ≡ false) × (size ≡ file_length n))
 unfolding written_of
 written_case true b n size e = let z : ◌≡◌ {A = ℕ} 0 1 = cc in absurd (omega arith)
@@ -36,7 +35,7 @@ pub record WriteAccepted (entries : List Entry) (room : List ℕ) (size : ℕ) :
   pub fits : file_length (length entries) ≤ length room
   pub size_is : size ≡ file_length (length entries)
 
-pub write_accepted : (entries : List Entry) (room : List ℕ) (size : ℕ) → list_written entries room ≡ Listed.Count size
+pub write_accepted : (entries : List Entry) (room : List ℕ) (size : ℕ) → list_written entries room ≡ Ok size
     → WriteAccepted entries room size
 unfolding list_written room_refused
 write_accepted entries room size e =
@@ -50,30 +49,30 @@ write_accepted entries room size e =
     }
 
 pub write_refused_5 : (entries : List Entry) (room : List ℕ) → any_refused (stars_of entries) ≡ true
-    → list_written entries room ≡ Listed.Refused Refusal.Star
+    → list_written entries room ≡ Err Refusal.Star
 unfolding list_written written_of
 write_refused_5 entries room a = rw a
 
 pub write_refused_11 : (entries : List Entry) (room : List ℕ) → any_refused (stars_of entries) ≡ false
-    → room_refused (length entries) (length room) ≡ true → list_written entries room ≡ Listed.Refused Refusal.Room
+    → room_refused (length entries) (length room) ≡ true → list_written entries room ≡ Err Refusal.Room
 unfolding list_written written_of
 write_refused_11 entries room a b = rw (a, b)
 
 -- ---- a row of numbers, four to a star
 
 pub numbers_refused_5 : (numbers : List ℤ) (room : List ℕ) → any_refused (number_stars numbers) ≡ true
-    → numbers_written numbers room ≡ Listed.Refused Refusal.Star
+    → numbers_written numbers room ≡ Err Refusal.Star
 unfolding numbers_written written_of
 numbers_refused_5 numbers room a = rw a
 
 pub numbers_refused_11 : (numbers : List ℤ) (room : List ℕ) → any_refused (number_stars numbers) ≡ false
-    → row_refused numbers (length room) ≡ true → numbers_written numbers room ≡ Listed.Refused Refusal.Room
+    → row_refused numbers (length room) ≡ true → numbers_written numbers room ≡ Err Refusal.Room
 unfolding numbers_written written_of
 numbers_refused_11 numbers room a b = rw (a, b)
 
 pub numbers_counted : (numbers : List ℤ) (room : List ℕ) → any_refused (number_stars numbers) ≡ false
     → row_refused numbers (length room) ≡ false
-    → numbers_written numbers room ≡ Listed.Count (file_length (count_from numbers))
+    → numbers_written numbers room ≡ Ok (file_length (count_from numbers))
 unfolding numbers_written
 numbers_counted numbers room a b = writes_case (any_refused (number_stars numbers)) _ (count_from numbers) a b
 
@@ -85,7 +84,7 @@ pub record RowAccepted (numbers : List ℤ) (room : List ℕ) (size : ℕ) : Typ
   pub fits : file_length (count_from numbers) ≤ length room
   pub size_is : size ≡ file_length (count_from numbers)
 
-pub row_accepted : (numbers : List ℤ) (room : List ℕ) (size : ℕ) → numbers_written numbers room ≡ Listed.Count size
+pub row_accepted : (numbers : List ℤ) (room : List ℕ) (size : ℕ) → numbers_written numbers room ≡ Ok size
     → RowAccepted numbers room size
 unfolding numbers_written row_refused room_refused
 row_accepted numbers room size e =

@@ -1,11 +1,10 @@
 -- Where a place has no right ascension or no azimuth (02, C-12), which mark the night list gives, and that its entry
 -- tells which angle is missing.
-use Rattle.std.specs.Prelude.{◌≡◌, refl, Bool, cond, ◌⊎◌, ◌↔◌, ◌<◌, eqb, ℤ, pos, neg_ℤ, nat_abs}
+use Rattle.std.specs.Prelude.{◌≡◌, refl, Bool, cond, ◌⊎◌, ◌↔◌, ◌<◌, eqb, ℤ, pos, neg_ℤ, nat_abs, Option, Some, None}
 use Rattle.std.proofs.Common.{sym, ap, ◌∙◌, inl, inr, ⊎_elim, arith, eq-eqb, ne_eqb}
 use Rattle.std.proofs.Math.Bool.{true, false}
 use Rattle.std.proofs.Math.IntN.{neg_ℤ-neg_ℤ}
 use Rattle.rules.specs.declared.Direction.{Direction}
-use Rattle.rules.specs.declared.Read.{Read}
 use Rattle.rules.specs.declared.Star.{Star}
 use Rattle.rules.specs.declared.Place.{Place}
 use Rattle.rules.specs.declared.Angles.{Angles}
@@ -27,11 +26,11 @@ opposite_nought z = (λ e. sym (neg_ℤ-neg_ℤ z) ∙ ap neg_ℤ e, λ e. ap ne
 
 -- ---- a place
 
-pub no_ra_iff : (n : Night) (s : Star) → (place_in n s).ra ≡ Read.NoAngle ↔ OnAxis (apparent n s)
+pub no_ra_iff : (n : Night) (s : Star) → (place_in n s).ra ≡ None ↔ OnAxis (apparent n s)
 unfolding place_in readings
 no_ra_iff n s = no_angle_iff (apparent n s).x (apparent n s).y
 
-pub no_azimuth_iff : (n : Night) (s : Star) → (place_in n s).azimuth ≡ Read.NoAngle ↔ OnAxis (overhead n (apparent n s))
+pub no_azimuth_iff : (n : Night) (s : Star) → (place_in n s).azimuth ≡ None ↔ OnAxis (overhead n (apparent n s))
 unfolding place_in readings
 no_azimuth_iff n s =
     let w = overhead n (apparent n s) in
@@ -44,8 +43,8 @@ no_azimuth_iff n s =
 -- ---- an entry tells which angle is missing
 
 -- an angle of an entry, by the height beside it
-unfoldable pub read_beside : ℤ → ℤ → Read
-read_beside height a = cond (eqb (nat_abs height) quarter) Read.NoAngle (Read.Angle a)
+unfoldable pub read_beside : ℤ → ℤ → Option ℤ
+read_beside height a = cond (eqb (nat_abs height) quarter) None (Some a)
 
 unfoldable pub place_of : Angles → Place
 place_of a = record {
@@ -55,32 +54,32 @@ place_of a = record {
   altitude = a.altitude;
 }
 
-pub read_beside_lem : (r : Read) (height : ℤ) → r ≡ Read.NoAngle ↔ nat_abs height ≡ quarter → read_beside height (or_nought r) ≡ r
+pub read_beside_lem : (r : Option ℤ) (height : ℤ) → r ≡ None ↔ nat_abs height ≡ quarter → read_beside height (or_nought r) ≡ r
 unfolding or_nought read_beside
-read_beside_lem (Read.Angle a) height i =
+read_beside_lem (Some a) height i =
     rw (ne_eqb (nat_abs height) quarter (λ e. some_is_not_none a (i.1 e)))
-read_beside_lem Read.NoAngle height i = rw (eq-eqb (nat_abs height) quarter (i.0 refl))
+read_beside_lem None height i = rw (eq-eqb (nat_abs height) quarter (i.0 refl))
 
 -- ---- marks
 
 -- one of the two or both have no angle
 abbrev pub LacksOne : Place → Type 0
-LacksOne p = (p.ra ≡ Read.NoAngle) ⊎ (p.azimuth ≡ Read.NoAngle)
+LacksOne p = (p.ra ≡ None) ⊎ (p.azimuth ≡ None)
 
-lacks_iff : (ra azimuth : Read) → mark_of ra azimuth ≡ 1 ↔ (ra ≡ Read.NoAngle) ⊎ (azimuth ≡ Read.NoAngle)
+lacks_iff : (ra azimuth : Option ℤ) → mark_of ra azimuth ≡ 1 ↔ (ra ≡ None) ⊎ (azimuth ≡ None)
 unfolding has_angle mark_of
-lacks_iff (Read.Angle a) (Read.Angle b) =
+lacks_iff (Some a) (Some b) =
     (λ e. absurd (omega (arith, e)), λ k. ⊎_elim (λ e. some_is_not_none a e) (λ e. some_is_not_none b e) k)
-lacks_iff (Read.Angle a) Read.NoAngle = (λ e. inr refl, λ k. refl)
-lacks_iff Read.NoAngle z = (λ e. inl refl, λ k. refl)
+lacks_iff (Some a) None = (λ e. inr refl, λ k. refl)
+lacks_iff None z = (λ e. inl refl, λ k. refl)
 
-zero_or_one : (ra azimuth : Read) → (mark_of ra azimuth ≡ 0) ⊎ (mark_of ra azimuth ≡ 1)
+zero_or_one : (ra azimuth : Option ℤ) → (mark_of ra azimuth ≡ 0) ⊎ (mark_of ra azimuth ≡ 1)
 unfolding has_angle mark_of
-zero_or_one (Read.Angle a) (Read.Angle b) = inl refl
-zero_or_one (Read.Angle a) Read.NoAngle = inr refl
-zero_or_one Read.NoAngle z = inr refl
+zero_or_one (Some a) (Some b) = inl refl
+zero_or_one (Some a) None = inr refl
+zero_or_one None z = inr refl
 
-pub mark_below_2 : (ra azimuth : Read) → mark_of ra azimuth < 2
+pub mark_below_2 : (ra azimuth : Option ℤ) → mark_of ra azimuth < 2
 mark_below_2 ra azimuth = ⊎_elim (λ z. omega (arith, z)) (λ z. omega (arith, z)) (zero_or_one ra azimuth)
 
 module _ (n : Night) (e : Entry) where

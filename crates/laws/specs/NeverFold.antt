@@ -1,6 +1,6 @@
 -- 02, C-22, of answers: two accepted UTC times have the same TT only if they are the same, a later one has the larger,
 -- and each TT of the stretch comes from exactly one, which is the one that is answered.
-use Rattle.std.specs.Prelude.{◌≡◌, refl, Bool, true, false, cond, ◌↔◌, ℕ, ◌+◌, ◌-◌, ◌<◌, ℤ, pos, neg_ℤ, ◌<ℤ◌}
+use Rattle.std.specs.Prelude.{◌≡◌, refl, Bool, true, false, cond, ◌↔◌, ℕ, ◌+◌, ◌-◌, ◌<◌, ℤ, pos, neg_ℤ, ◌<ℤ◌, Result, Ok, Err}
 use Rattle.std.proofs.Common.{sym, arith}
 use Rattle.integers.specs.Difference.{eq_of_parts}
 use Rattle.rules.specs.declared.Ut.{Ut}
@@ -9,7 +9,6 @@ use Rattle.rules.specs.declared.Utc.{Utc}
 use Rattle.rules.specs.declared.Moment.{Moment}
 use Rattle.rules.specs.declared.Refusal.{Refusal}
 use Rattle.rules.specs.declared.Instants.{Instants}
-use Rattle.rules.specs.declared.Clocked.{Clocked}
 use Rattle.rules.specs.Answers.{utc_numbers}
 use Rattle.rules.specs.Calendar.{date_of_count}
 use Rattle.rules.specs.Dates.{ut_of, tt_of, instants}
@@ -25,16 +24,17 @@ use Rattle.laws.specs.ClockOrder.{Earlier, later_more}
 use Rattle.laws.specs.Stretch.{InStretch, stretch_refused_iff, stretch_accepted_iff, Counts, count_of, counts}
 use Rattle.laws.specs.Stretch.{in_stretch}
 use Rattle.laws.specs.Utc.{of_tt, ms_count_lem, time_exists}
+use Rattle.rules.specs.Dates.{ut_and_tt}
 
 -- ---- accepted UTC times
 
 -- the ms of the span before an accepted moment
-pub tt_counts : (m : Moment) (v : Ut) (t : Tt) → instants m ≡ Instants.At v t → Counts t.0 (ms_of (utc_of m))
+pub tt_counts : (m : Moment) (v : Ut) (t : Tt) → instants m ≡ Ok (ut_and_tt v t) → Counts t.0 (ms_of (utc_of m))
 tt_counts m v t e =
     rw (← (instants_at_lem m v t e).1) (tt_is (utc_of m) m.ut1_minus_utc (of_instants m v t e))
 
-module _ (m m' : Moment) (v v' : Ut) (t t' : Tt) (e : instants m ≡ Instants.At v t)
-    (e' : instants m' ≡ Instants.At v' t') where
+module _ (m m' : Moment) (v v' : Ut) (t t' : Tt) (e : instants m ≡ Ok (ut_and_tt v t))
+    (e' : instants m' ≡ Ok (ut_and_tt v' t')) where
   -- "a later one has the larger TT through every added second"
   pub later_larger : Earlier (utc_numbers (utc_of m)) (utc_numbers (utc_of m')) → t.0 <ℤ t'.0
   later_larger h =
@@ -47,7 +47,7 @@ module _ (m m' : Moment) (v v' : Ut) (t t' : Tt) (e : instants m ≡ Instants.At
       ))
 
 -- its TT is of the stretch
-pub accepted_in_stretch : (m : Moment) (v : Ut) (t : Tt) → instants m ≡ Instants.At v t → InStretch t.0
+pub accepted_in_stretch : (m : Moment) (v : Ut) (t : Tt) → instants m ≡ Ok (ut_and_tt v t) → InStretch t.0
 accepted_in_stretch m v t e =
     let a = of_instants m v t e in
     in_stretch t.0 (ms_of (utc_of m)) (tt_counts m v t e)
@@ -87,35 +87,35 @@ utc_at_lem t h =
 -- ---- answers
 
 -- two ways a TT is answered
-answered_at : (b : Bool) (u w : Utc) → cond b (Clocked.Refused Refusal.Stretch) (Clocked.At u) ≡ Clocked.At w
+answered_at : (b : Bool) (u w : Utc) → cond b (Err Refusal.Stretch) (Ok u) ≡ Ok w
     → (b ≡ false) × (u ≡ w)
 answered_at true u w e = let z : true ≡ false = cc in true_not_false z
 answered_at false u w e = (refl, (cc))
 
 answered_refused : (b : Bool) (u : Utc)
-    → cond b (Clocked.Refused Refusal.Stretch) (Clocked.At u) ≡ Clocked.Refused Refusal.Stretch ↔ b ≡ true
+    → cond b (Err Refusal.Stretch) (Ok u) ≡ Err Refusal.Stretch ↔ b ≡ true
 answered_refused true u = (λ e. refl, λ e. refl)
 answered_refused false u = (λ e. cc, λ e. true_not_false (sym e))
 
-pub answered_same : (u w : Utc) → Clocked.At u ≡ Clocked.At w → u ≡ w
+pub answered_same : (u w : Utc) → ◌≡◌ {A = Result Utc Refusal} (Ok u) (Ok w) → u ≡ w
 answered_same u w e = cc
 
 module _ (t : Tt) where
   -- refused exactly outside the stretch
-  pub utc_refused_20 : utc_of_tt t ≡ Clocked.Refused Refusal.Stretch ↔ ¬ (InStretch t.0)
+  pub utc_refused_20 : utc_of_tt t ≡ Err Refusal.Stretch ↔ ¬ (InStretch t.0)
   unfolding utc_of_tt
   utc_refused_20 =
       let u = answered_refused (stretch_refused t) (utc_at t.0) in
       let v = stretch_refused_iff t in
       (λ e. v.0 (u.0 e), λ n. u.1 (v.1 n))
 
-  pub utc_answered : InStretch t.0 → utc_of_tt t ≡ Clocked.At (utc_at t.0)
+  pub utc_answered : InStretch t.0 → utc_of_tt t ≡ Ok (utc_at t.0)
   unfolding utc_of_tt
   utc_answered h = rw ((stretch_accepted_iff t).1 h)
 
   -- TT to UTC and back, with any UT1−UTC
-  pub utc_then_tt : (u : Utc) → utc_of_tt t ≡ Clocked.At u → (d : ℤ) → Between (neg_ℤ (pos 900)) (pos 900) d
-      → instants (moment_with u d) ≡ Instants.At (ut_of (moment_with u d)) t
+  pub utc_then_tt : (u : Utc) → utc_of_tt t ≡ Ok u → (d : ℤ) → Between (neg_ℤ (pos 900)) (pos 900) d
+      → instants (moment_with u d) ≡ Ok (ut_and_tt (ut_of (moment_with u d)) t)
   unfolding utc_of_tt
   utc_then_tt u e d h =
       let p = answered_at (stretch_refused t) (utc_at t.0) u e in
@@ -129,7 +129,7 @@ module _ (t : Tt) where
 
 -- refused exactly where no accepted UTC time has this TT
 pub refused_none : (t : Tt)
-    → utc_of_tt t ≡ Clocked.Refused Refusal.Stretch ↔ ((m : Moment) (v : Ut) → ¬ (instants m ≡ Instants.At v t))
+    → utc_of_tt t ≡ Err Refusal.Stretch ↔ ((m : Moment) (v : Ut) → ¬ (instants m ≡ Ok (ut_and_tt v t)))
 refused_none t = (
   λ e m v f. (utc_refused_20 t).0 e (accepted_in_stretch m v t f),
   λ none. (utc_refused_20 t).1

@@ -1,11 +1,9 @@
 -- The round trip of the list file as C makes it, star by star: the four numbers of each star of a file, in a row, are
 -- written as that file; and a row of numbers that is written is read as those numbers.
-use Rattle.std.specs.Prelude.{◌≡◌, refl, false, ℕ, zero, suc, ◌+◌, ◌*◌, ◌/◌, ◌%◌, ◌<◌, ◌≤◌, length, take, drop, get_or, ℤ, pos}
+use Rattle.std.specs.Prelude.{◌≡◌, refl, false, ℕ, zero, suc, ◌+◌, ◌*◌, ◌/◌, ◌%◌, ◌<◌, ◌≤◌, length, take, drop, get_or, ℤ, pos, Ok}
 use Rattle.std.proofs.Common.{sym, ◌∙◌, ap, arith, take_at, drop-drop, get_or-drop, lt-ltb}
 use mathlib.Core.List.{List, [], ◌∷◌, ◌++◌, map, flat_map, append-nil}
 use Rattle.rules.specs.declared.Star.{Star}
-use Rattle.rules.specs.declared.Listed.{Listed}
-use Rattle.rules.specs.declared.ListedStar.{ListedStar}
 use Rattle.rules.specs.Years.{up_from}
 use Rattle.rules.specs.Refusals.{given}
 use Rattle.rules.specs.Answers.{listed_star_answer}
@@ -25,7 +23,7 @@ use Rattle.laws.specs.FileAgain.{file_again, file_kept_lem, stars_again}
 
 -- the four numbers of a star, as they are answered
 abbrev four_of : Star → List ℤ
-four_of s = (listed_star_answer (ListedStar.Of s)).values
+four_of s = (listed_star_answer (Ok s)).values
 
 -- the numbers of the stars of a file by their indexes, from 0 to below the count, one behind the other
 abbrev pub numbers_in : List ℕ → ℕ → List ℤ
@@ -34,15 +32,15 @@ numbers_in file count = flat_map (λ i. (listed_star_answer (list_star file i)).
 -- ---- the stars of a file, one by one
 
 -- a star of an accepted file by its index
-star_of_lem : (file : List ℕ) (count i : ℕ) → list_count file ≡ Listed.Count count → i < count
-    → list_star file i ≡ ListedStar.Of (star_in (drop (record_length * i) (drop head_length file)))
+star_of_lem : (file : List ℕ) (count i : ℕ) → list_count file ≡ Ok count → i < count
+    → list_star file i ≡ Ok (star_in (drop (record_length * i) (drop head_length file)))
 unfolding list_star star_at file_length
 star_of_lem file count i e l =
     let below = lt-ltb i count l in
-    rw (e, below) (ap (λ bytes. ListedStar.Of (star_in bytes)) (sym (drop-drop (record_length * i) head_length file)))
+    rw (e, below) (ap (λ bytes. Ok (star_in bytes)) (sym (drop-drop (record_length * i) head_length file)))
 
 -- the last `left` of them
-stars_from_lem : (file : List ℕ) (count : ℕ) → list_count file ≡ Listed.Count count → (left i : ℕ) → i + left ≡ count
+stars_from_lem : (file : List ℕ) (count : ℕ) → list_count file ≡ Ok count → (left i : ℕ) → i + left ≡ count
     → flat_map (λ j. (listed_star_answer (list_star file j)).values) (up_from i left)
     ≡ flat_map four_of (stars_in left (drop (record_length * i) (drop head_length file)))
 unfolding flat_map up_from stars_in
@@ -56,7 +54,7 @@ stars_from_lem file count e (suc left) i h =
     ∙ ap (λ rest. four_of (star_in (drop (record_length * i) bytes)) ++ flat_map four_of (stars_in left rest)) further
 
 -- all of them
-numbers_in_lem : (file : List ℕ) (count : ℕ) → list_count file ≡ Listed.Count count
+numbers_in_lem : (file : List ℕ) (count : ℕ) → list_count file ≡ Ok count
     → numbers_in file count ≡ flat_map four_of (stars file)
 unfolding stars
 numbers_in_lem file count e =
@@ -77,9 +75,9 @@ row_stars (s ∷ ss) = ap (λ r. s ∷ r) (row_stars ss)
 
 -- what is written of the numbers of each star of a file into room for it is that file, byte for byte, and the bytes
 -- past it stay
-pub stars_then_written : (file : List ℕ) → Bytes file → (count : ℕ) → list_count file ≡ Listed.Count count
+pub stars_then_written : (file : List ℕ) → Bytes file → (count : ℕ) → list_count file ≡ Ok count
     → (room : List ℕ) → length file ≤ length room
-    → (numbers_written (numbers_in file count) room ≡ Listed.Count (length file))
+    → (numbers_written (numbers_in file count) room ≡ Ok (length file))
     × (room_after_numbers (numbers_in file count) room ≡ file ++ drop (length file) room)
 unfolding count_from number_stars room_after_numbers leaving
 stars_then_written file byte count e room l =
@@ -98,7 +96,7 @@ stars_then_written file byte count e room l =
     (omega (arith, size, l)) in
     let answer = numbers_counted row room (ap any_refused same ∙ ok.not_5) enough in
     let text = ap file_of same ∙ file_again file byte (headed file ok.not_9) (counted file ok.not_10) in
-    (answer ∙ ap Listed.Count size, rw answer (λ i. text i ++ drop (size i) room))
+    (answer ∙ ap Ok size, rw answer (λ i. text i ++ drop (size i) room))
 
 -- ---- written and read back star by star, the numbers are the same
 
@@ -109,7 +107,7 @@ four_at numbers i =
     ∷ get_or numbers (4 * i + 2) (pos 0) ∷ get_or numbers (4 * i + 3) (pos 0) ∷ []
 
 star_at_lem : (numbers : List ℤ) (i : ℕ)
-    → listed_star_answer (ListedStar.Of (star_from (drop (4 * i) numbers))) ≡ given (four_at numbers i)
+    → listed_star_answer (Ok (star_from (drop (4 * i) numbers))) ≡ given (four_at numbers i)
 unfolding star_from listed_star_answer given
 star_at_lem numbers i =
     let first : 4 * i + 0 ≡ 4 * i = omega arith in
@@ -131,7 +129,7 @@ row_again (suc count) (a ∷ b ∷ c ∷ d ∷ rest) h =
 -- what is read of a file that was written of a row of numbers: as many stars as there are fours, each with its four
 -- numbers, and no number of the row is left over
 pub record ReadBack (numbers : List ℤ) (file : List ℕ) : Type 0 where
-  pub count : list_count file ≡ Listed.Count (length numbers / 4)
+  pub count : list_count file ≡ Ok (length numbers / 4)
   pub star : (i : ℕ) → i < length numbers / 4 → listed_star_answer (list_star file i) ≡ given (four_at numbers i)
   pub row : numbers_in file (length numbers / 4) ≡ numbers
 
@@ -145,23 +143,23 @@ file_back numbers even few none =
     let file = file_of ss in
     let bytes = drop head_length file in
     let many = number_count numbers in
-    let count : list_count file ≡ Listed.Count n =
-    file_kept_lem ss (omega (arith, few, many)) none ∙ ap Listed.Count many in
+    let count : list_count file ≡ Ok n =
+    file_kept_lem ss (omega (arith, few, many)) none ∙ ap Ok many in
     let same : stars_in n bytes ≡ ss = (λ j. stars_in (sym many j) (drop head_length (sym (append-nil file) j)))
     ∙ stars_again ss [] (all_fit ss none) in
     let each_same = sym (stars_in_each n bytes) ∙ same ∙ stars_from_each n numbers in
-    let other = ListedStar.Of (star_in []) in
+    let other = Ok (star_in []) in
     record {
       count = count;
       star = λ i l. ap listed_star_answer (star_of_lem file n i count l
-          ∙ sym (each_nth star_in record_length ListedStar.Of n i bytes other l)
-          ∙ ap (λ r. get_or (map ListedStar.Of r) i other) each_same
-          ∙ each_nth star_from 4 ListedStar.Of n i numbers other l) ∙ star_at_lem numbers i;
+          ∙ sym (each_nth star_in record_length Ok n i bytes other l)
+          ∙ ap (λ r. get_or (map Ok r) i other) each_same
+          ∙ each_nth star_from 4 Ok n i numbers other l) ∙ star_at_lem numbers i;
       row = stars_from_lem file n count n 0 (omega arith) ∙ ap (flat_map four_of) same
           ∙ row_again n numbers (omega (arith, even));
     }
 
-pub written_then_stars : (numbers : List ℤ) (room : List ℕ) (size : ℕ) → numbers_written numbers room ≡ Listed.Count size
+pub written_then_stars : (numbers : List ℤ) (room : List ℕ) (size : ℕ) → numbers_written numbers room ≡ Ok size
     → ReadBack numbers (take size (room_after_numbers numbers room))
 unfolding room_after_numbers leaving
 written_then_stars numbers room size e =

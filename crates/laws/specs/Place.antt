@@ -1,6 +1,6 @@
 -- The steps of a place: how far the angles reach, and that every direction on the way is accepted, so that no turn is
 -- refused and no length is nought.
-use Rattle.std.specs.Prelude.{◌≡◌, refl, Bool, true, false, not, cond, ◌&&◌, ℕ, ◌-◌, ◌*◌, ◌≤◌, T, ℤ, pos, negsuc, neg_ℤ, nat_abs, ◌*ℤ◌}
+use Rattle.std.specs.Prelude.{◌≡◌, refl, Bool, true, false, not, cond, ◌&&◌, ℕ, ◌-◌, ◌*◌, ◌≤◌, T, ℤ, pos, negsuc, neg_ℤ, nat_abs, ◌*ℤ◌, Result, Ok, Err, Some}
 use Rattle.std.proofs.Common.{subst, mul-le-mul, arith, lit<, lit≤}
 use Rattle.integers.specs.Size.{abs_add, abs_mul}
 use Rattle.rules.specs.declared.Ut.{Ut}
@@ -8,10 +8,8 @@ use Rattle.rules.specs.declared.Tt.{Tt}
 use Rattle.rules.specs.declared.Direction.{Direction}
 use Rattle.rules.specs.declared.Moment.{Moment}
 use Rattle.rules.specs.declared.Site.{Site}
-use Rattle.rules.specs.declared.Read.{Read}
 use Rattle.rules.specs.declared.Place.{Place}
 use Rattle.rules.specs.declared.Instants.{Instants}
-use Rattle.rules.specs.declared.Placed.{Placed}
 use Rattle.rules.specs.declared.Refusal.{Refusal}
 use Rattle.rules.specs.declared.Night.{Night}
 use Rattle.rules.specs.declared.Star.{Star}
@@ -31,6 +29,7 @@ use Rattle.laws.specs.Instant.{InRange}
 use Rattle.laws.specs.UpTo.{UpTo}
 use Rattle.laws.specs.NoAngle.{reading_range}
 use Rattle.laws.specs.Heights.{height_le}
+use Rattle.rules.specs.Dates.{ut_and_tt}
 
 -- ---- a star that is not refused
 
@@ -90,9 +89,9 @@ ahead_accepted = record { low = lit≤ tt; high = lit≤ tt }
 
 -- right ascension and azimuth from 0 to C − 1, declination and altitude within a quarter
 pub record PlaceRanges (p : Place) : Type 0 where
-  pub ra : (a : ℤ) → p.ra ≡ Read.Angle a → UpTo a (circle - 1)
+  pub ra : (a : ℤ) → p.ra ≡ Some a → UpTo a (circle - 1)
   pub declination : nat_abs p.declination ≤ quarter
-  pub azimuth : (a : ℤ) → p.azimuth ≡ Read.Angle a → UpTo a (circle - 1)
+  pub azimuth : (a : ℤ) → p.azimuth ≡ Some a → UpTo a (circle - 1)
   pub altitude : nat_abs p.altitude ≤ quarter
 
 pub place_in_ranges : (n : Night) (s : Star) → PlaceRanges (place_in n s)
@@ -111,31 +110,31 @@ place_in_ranges n s =
 pub record InNight (m : Moment) (star : Star) (site : Site) (p : Place) : Type 0 where
   pub ut : Ut
   pub tt_at : Tt
-  pub at : instants m ≡ Instants.At ut tt_at
+  pub at : instants m ≡ Ok (ut_and_tt ut tt_at)
   pub is : place_in (night ut tt_at site) star ≡ p
 
-pub in_night : (m : Moment) (star : Star) (site : Site) (p : Place) → place m star site ≡ Placed.At p
+pub in_night : (m : Moment) (star : Star) (site : Site) (p : Place) → place m star site ≡ Ok p
     → InNight m star site p
 unfolding place place_at
 in_night m star site p e = by (instants m) refl e
   where
-    clash : {A : Type 0} (r : Refusal) → Placed.Refused r ≡ Placed.At p → A
+    clash : {A : Type 0} (r : Refusal) → Err r ≡ Ok p → A
     clash r k = let z : ◌≡◌ {A = ℕ} 0 1 = cc in absurd (omega arith)
 
-    go : (u : Ut) (t : Tt) → instants m ≡ Instants.At u t → (a b : Bool)
-        → cond a (Placed.Refused Refusal.Star)
-        (cond b (Placed.Refused Refusal.Site) (Placed.At (place_in (night u t site) star))) ≡ Placed.At p
+    go : (u : Ut) (t : Tt) → instants m ≡ Ok (ut_and_tt u t) → (a b : Bool)
+        → cond a (Err Refusal.Star)
+        (cond b (Err Refusal.Site) (Ok (place_in (night u t site) star))) ≡ Ok p
         → InNight m star site p
     go u t at true b k = clash Refusal.Star k
     go u t at false true k = clash Refusal.Site k
     go u t at false false k = record { ut = u; tt_at = t; at = at; is = cc }
 
-    by : (i : Instants) → instants m ≡ i → place_at i star site ≡ Placed.At p → InNight m star site p
-    by (Instants.Refused r) at k = clash r k
-    by (Instants.At u t) at k = go u t at (star_refused star) (site_refused site) k
+    by : (i : Result Instants Refusal) → instants m ≡ i → place_at i star site ≡ Ok p → InNight m star site p
+    by (Err r) at k = clash r k
+    by (Ok i) at k = go i.ut i.tt at (star_refused star) (site_refused site) k
 
 -- of every place that is answered
-pub place_ranges : (m : Moment) (star : Star) (site : Site) (p : Place) → place m star site ≡ Placed.At p
+pub place_ranges : (m : Moment) (star : Star) (site : Site) (p : Place) → place m star site ≡ Ok p
     → PlaceRanges p
 place_ranges m star site p e =
     let i = in_night m star site p e in

@@ -1,23 +1,22 @@
 -- Number and values of a reading and of a place are one-to-one: a flag tells an angle of nought from none.
-use Rattle.std.specs.Prelude.{◌≡◌, refl, cond, List, [], ℤ, pos}
+use Rattle.std.specs.Prelude.{◌≡◌, refl, cond, List, [], ℤ, pos, Result, Ok, Err, Option, Some, None}
 use Rattle.std.proofs.Common.{sym, ap, ◌∙◌}
-use Rattle.rules.specs.declared.Read.{Read}
 use Rattle.rules.specs.declared.Place.{Place}
-use Rattle.rules.specs.declared.Placed.{Placed}
 use Rattle.rules.specs.Units.{same}
 use Rattle.rules.specs.Answers.{has_angle, or_nought, flag, read_answer, place_numbers, placed_answer}
 use Rattle.laws.specs.Refusals.{never, same_refusal, same_values, at}
+use Rattle.rules.specs.declared.Refusal.{Refusal}
 
 -- an angle with its flag, from the two again
-abbrev pub read_of : ℤ → ℤ → Read
-read_of has a = cond (same has (pos 1)) (Read.Angle a) Read.NoAngle
+abbrev pub read_of : ℤ → ℤ → Option ℤ
+read_of has a = cond (same has (pos 1)) (Some a) None
 
-pub read_again : (r : Read) → read_of (flag r) (or_nought r) ≡ r
+pub read_again : (r : Option ℤ) → read_of (flag r) (or_nought r) ≡ r
 unfolding same has_angle or_nought flag
-read_again (Read.Angle a) = refl
-read_again Read.NoAngle = refl
+read_again (Some a) = refl
+read_again None = refl
 
-pub read_one : (a b : Read) → read_answer a ≡ read_answer b → a ≡ b
+pub read_one : (a b : Option ℤ) → read_answer a ≡ read_answer b → a ≡ b
 unfolding read_answer
 read_one a b e = sym (read_again a) ∙ ap (λ zs. read_of (at zs 0) (at zs 1)) (same_values _ _ e) ∙ read_again b
 
@@ -36,9 +35,9 @@ place_again p beside = rw (read_again p.ra, read_again p.azimuth)
 pub place_one : (p q : Place) (ys zs : List ℤ) → place_numbers p ys ≡ place_numbers q zs → p ≡ q
 place_one p q ys zs e = sym (place_again p ys) ∙ ap place_at e ∙ place_again q zs
 
-pub placed_one : (a b : Placed) → placed_answer a ≡ placed_answer b → a ≡ b
+pub placed_one : (a b : Result Place Refusal) → placed_answer a ≡ placed_answer b → a ≡ b
 unfolding placed_answer
-placed_one (Placed.At p) (Placed.At p') e = ap Placed.At (place_one p p' [] [] (same_values _ _ e))
-placed_one (Placed.At p) (Placed.Refused s) e = never s 6 _ e
-placed_one (Placed.Refused r) (Placed.At p) e = never r 6 _ (sym e)
-placed_one (Placed.Refused r) (Placed.Refused s) e = ap Placed.Refused (same_refusal r s 6 e)
+placed_one (Ok p) (Ok p') e = ap Ok (place_one p p' [] [] (same_values _ _ e))
+placed_one (Ok p) (Err s) e = never s 6 _ e
+placed_one (Err r) (Ok p) e = never r 6 _ (sym e)
+placed_one (Err r) (Err s) e = ap Err (same_refusal r s 6 e)

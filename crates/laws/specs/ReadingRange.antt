@@ -1,6 +1,6 @@
 -- Where a reading lies: the angle to half a quarter, to a quarter, by the signs (docs/MATHEMATICS.md,
 -- "Ranges of a reading"). What each case of the rule is, by one equation.
-use Rattle.std.specs.Prelude.{◌≡◌, refl, Bool, true, false, cond, ◌&&◌, ℕ, zero, suc, ◌+◌, ◌*◌, ◌-◌, ◌≤◌, ◌<◌, min, max, T, eqb, ℤ, pos, negsuc, nat_abs, ◌+ℤ◌, ◌-ℤ◌}
+use Rattle.std.specs.Prelude.{◌≡◌, refl, Bool, true, false, cond, ◌&&◌, ℕ, zero, suc, ◌+◌, ◌*◌, ◌-◌, ◌≤◌, ◌<◌, min, max, T, eqb, ℤ, pos, negsuc, nat_abs, ◌+ℤ◌, ◌-ℤ◌, Some, None}
 use Rattle.std.proofs.Common.{lt_of_not-le, arith, le-leb, lt-ltb, le-ltb, eqb→eq, lit≤}
 use Rattle.std.proofs.Math.Decide.{dec_le}
 use Rattle.std.proofs.Math.Facts.{and_yes}
@@ -9,7 +9,6 @@ use Rattle.std.proofs.Math.Dec.{leb-suc-zero}
 use Rattle.std.specs.Int.Signed.{lt_z}
 use Rattle.integers.specs.Difference.{pos_part, neg_part, lt_z_true}
 use Rattle.rules.specs.Units.{circle, half, quarter, half_quarter, half_in_parts}
-use Rattle.rules.specs.declared.Read.{Read}
 use Rattle.rules.specs.Rounding.{rnd, rnd_size}
 use Rattle.rules.specs.Circle.{square_parts}
 use Rattle.rules.specs.Reading.{arc_stage, arc_stages, arc, in_microarcseconds, flat, tangent, angle_to_half}
@@ -146,12 +145,12 @@ angle_of_range (negsuc h) v = some_range (negsuc h) v (omega arith)
 -- ---- the reading
 
 -- where h and v are not both nought
-pub reading_is : (h v : ℤ) → 0 < nat_abs h + nat_abs v → reading h v ≡ Read.Angle (angle_of h v)
+pub reading_is : (h v : ℤ) → 0 < nat_abs h + nat_abs v → reading h v ≡ Some (angle_of h v)
 unfolding reading
 reading_is h v k = by (eqb (nat_abs h) 0 && eqb (nat_abs v) 0) (λ t. and_yes (eqb (nat_abs h) 0) (eqb (nat_abs v) 0) t)
   where
     by : (t : Bool) → (T t → T (eqb (nat_abs h) 0) × T (eqb (nat_abs v) 0))
-        → cond t Read.NoAngle (Read.Angle (angle_of h v)) ≡ Read.Angle (angle_of h v)
+        → cond t None (Some (angle_of h v)) ≡ Some (angle_of h v)
     by true p =
         let e = eqb→eq (nat_abs h) 0 (p tt).0 in
         let f = eqb→eq (nat_abs v) 0 (p tt).1 in

@@ -1,14 +1,17 @@
--- Stars that lie one after the other, in the records of a file or in a row of numbers: star i, one star more, and
--- whether one of them is refused.
-use Rattle.std.specs.Prelude.{◌≡◌, Bool, ◌||◌, List, [], ◌∷◌, ◌++◌, map, length, get_or, drop, ℤ}
+-- Stars that lie one after the other, in the records of a file or in a row of numbers: star i, one star more, whether
+-- one of them is refused, and the records as the library cuts them.
+use Rattle.std.specs.Prelude.{◌≡◌, Bool, ◌||◌, List, [], ◌∷◌, ◌++◌, map, length, get_or, take, drop, ℤ}
+use Rattle.std.specs.Simd.{first_chunks}
 use Rattle.std.proofs.Math.Path.{refl, ap}
 use Rattle.std.proofs.Common.{sym, ◌∙◌, arith, lt_irrefl, drop-drop}
+use Rattle.std.proofs.lemmas.List.{take-take, drop-take}
 use Rattle.std.proofs.Math.Bool.{true, false}
 use Rattle.std.proofs.lemmas.Bool.{false≢true}
 use Prim.Native.Nat.{ℕ, zero, suc, ◌+◌, ◌*◌, ◌<◌}
 use Rattle.rules.specs.declared.Star.{Star}
+use Rattle.rules.specs.Bytes.{signed_at, unsigned_at, part}
 use Rattle.rules.specs.Stars.{star_refused}
-use Rattle.rules.specs.ListFile.{star_in, stars_in, any_refused}
+use Rattle.rules.specs.ListFile.{record_length, star_in, stars_in, any_refused}
 use Rattle.rules.specs.ListWriting.{star_from, stars_from}
 
 pub or_false : (a b : Bool) → a || b ≡ false → (a ≡ false) × (b ≡ false)
@@ -86,3 +89,25 @@ any_snoc (t ∷ ss) s a b =
     let k = or_false (star_refused t) (any_refused ss) a in
     let first = k.0 in
     rw first (any_snoc ss s k.1 b)
+
+-- ---- the records of a file, cut
+
+-- a number within the record is the record's
+number_in : (at count left : ℕ) (bytes : List ℕ) → signed_at at count (take (at + (count + left)) bytes) ≡ signed_at at count bytes
+unfolding signed_at unsigned_at part
+number_in at count left bytes =
+    rw (drop-take at (count + left) bytes, take-take count (count + left) (drop at bytes) (omega arith))
+
+first_star : (bytes : List ℕ) → star_in (take record_length bytes) ≡ star_in bytes
+unfolding star_in
+first_star bytes = λ i. record {
+  ra = number_in 0 8 16 bytes i;
+  declination = number_in 8 8 8 bytes i;
+  ra_motion = number_in 16 4 4 bytes i;
+  declination_motion = number_in 20 4 0 bytes i;
+}
+
+pub stars_of_chunks : (count : ℕ) (bytes : List ℕ) → map star_in (first_chunks record_length count bytes) ≡ stars_in count bytes
+unfolding stars_in
+stars_of_chunks zero bytes = refl
+stars_of_chunks (suc count) bytes = λ i. first_star bytes i ∷ stars_of_chunks count (drop record_length bytes) i

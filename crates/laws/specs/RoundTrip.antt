@@ -1,11 +1,10 @@
 -- The round trip of the list file. Read and written back, it is byte-equal; written and read back, the stars are the
 -- same.
-use Rattle.std.specs.Prelude.{◌≡◌, refl, List, [], ◌∷◌, ◌++◌, map, ℕ, ◌≤◌, length, take, drop}
+use Rattle.std.specs.Prelude.{◌≡◌, refl, List, [], ◌∷◌, ◌++◌, map, ℕ, ◌≤◌, length, take, drop, Ok}
 use Rattle.std.proofs.Common.{sym, ◌∙◌, ap, arith, take_at}
 use Rattle.std.proofs.lemmas.List.{length-map}
 use Rattle.rules.specs.declared.Star.{Star}
 use Rattle.rules.specs.declared.Entry.{Entry}
-use Rattle.rules.specs.declared.Listed.{Listed}
 use Rattle.rules.specs.ListFile.{head_length, most_records, count_in, file_length, stars_in, stars, any_refused}
 use Rattle.rules.specs.ListReading.{list_read, fresh_entry, leaving, entries_after_read}
 use Rattle.rules.specs.ListWriting.{stars_of, file_of, list_written, room_after_write}
@@ -25,7 +24,7 @@ stars_fresh [] = refl
 stars_fresh (s ∷ ss) = ap (λ r. s ∷ r) (stars_fresh ss)
 
 -- the entries that a file is read into
-pub entries_read : (file : List ℕ) (entries : List Entry) (count : ℕ) → list_read file entries ≡ Listed.Count count
+pub entries_read : (file : List ℕ) (entries : List Entry) (count : ℕ) → list_read file entries ≡ Ok count
     → take count (entries_after_read file entries) ≡ map fresh_entry (stars file)
 unfolding entries_after_read leaving stars
 entries_read file entries count e =
@@ -37,8 +36,8 @@ entries_read file entries count e =
 
 -- what is read of a file and written into room for it is that file, byte for byte, and the bytes past it stay
 pub read_then_written : (file : List ℕ) → Bytes file → (entries : List Entry) (count : ℕ)
-    → list_read file entries ≡ Listed.Count count → (room : List ℕ) → length file ≤ length room
-    → (list_written (take count (entries_after_read file entries)) room ≡ Listed.Count (length file))
+    → list_read file entries ≡ Ok count → (room : List ℕ) → length file ≤ length room
+    → (list_written (take count (entries_after_read file entries)) room ≡ Ok (length file))
     × (room_after_write (take count (entries_after_read file entries)) room ≡ file ++ drop (length file) room)
 unfolding room_after_write leaving
 read_then_written file byte entries count e room l =
@@ -52,14 +51,14 @@ read_then_written file byte entries count e room l =
     let answer = write_counted read room (ap any_refused same ∙ ok.not_5) (omega (arith, long, c.few))
     (omega (arith, size, l)) in
     let text = ap file_of same ∙ file_again file byte (headed file ok.not_9) c in
-    (answer ∙ ap Listed.Count size, rw answer (λ i. text i ++ drop (size i) room))
+    (answer ∙ ap Ok size, rw answer (λ i. text i ++ drop (size i) room))
 
 -- ---- written and read back
 
 -- what is written of entries is read, into room for them, without a refusal, and the stars are the same
-pub written_then_read : (entries : List Entry) (room : List ℕ) (size : ℕ) → list_written entries room ≡ Listed.Count size
+pub written_then_read : (entries : List Entry) (room : List ℕ) (size : ℕ) → list_written entries room ≡ Ok size
     → (others : List Entry) → length entries ≤ length others
-    → (list_read (take size (room_after_write entries room)) others ≡ Listed.Count (length entries))
+    → (list_read (take size (room_after_write entries room)) others ≡ Ok (length entries))
     × (stars (take size (room_after_write entries room)) ≡ stars_of entries)
 unfolding room_after_write leaving
 written_then_read entries room size e others l =
@@ -72,6 +71,6 @@ written_then_read entries room size e others l =
     (file_of ss ++ drop (file_length (length entries)) room) room)
     ≡ file_of ss = rw e (take_at (file_of ss) (drop (file_length (length entries)) room) size long) in (
       ap (λ bytes. list_read bytes others) file
-          ∙ read_counted (file_of ss) others (length entries) (file_kept_lem ss few ok.not_5 ∙ ap Listed.Count count) l,
+          ∙ read_counted (file_of ss) others (length entries) (file_kept_lem ss few ok.not_5 ∙ ap Ok count) l,
       ap stars file ∙ stars_kept ss few (all_fit ss ok.not_5),
     )

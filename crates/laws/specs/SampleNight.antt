@@ -1,6 +1,6 @@
 -- A night worked out by the rules alone, to the last unit: 20 March 2026 at 20:00 UTC, at 50° 05' 16'' north,
 -- 14° 25' 15'' east.
-use Rattle.std.specs.Prelude.{◌≡◌, refl, ℤ, pos, neg_ℤ, ◌+ℤ◌, ◌-ℤ◌, ◌*ℤ◌}
+use Rattle.std.specs.Prelude.{◌≡◌, refl, ℤ, pos, neg_ℤ, ◌+ℤ◌, ◌-ℤ◌, ◌*ℤ◌, Ok}
 use Rattle.rules.specs.declared.Ut.{Ut}
 use Rattle.rules.specs.declared.Tt.{Tt}
 use Rattle.rules.specs.declared.Moment.{Moment}
@@ -26,6 +26,7 @@ use Rattle.rules.specs.Nutation.{term_angle, longitude_product, obliquity_produc
 use Rattle.rules.specs.Sun.{mean_longitude, centre_product, centre_sum, centre, sun_longitude, perihelion}
 use Rattle.rules.specs.Sidereal.{sidereal_polynomial, sidereal}
 use Rattle.rules.specs.Night.{aberration_x, aberration_y, aberration, local_sidereal, night}
+use Rattle.rules.specs.Dates.{ut_and_tt}
 
 -- ---- the moment and the site
 
@@ -45,7 +46,7 @@ ut_now = record { 0 = + 827308800000 }
 abbrev pub tt_now : Tt
 tt_now = record { 0 = + 827308869184 }
 
-pub evening_is : instants evening ≡ Instants.At ut_now tt_now
+pub evening_is : instants evening ≡ Ok (ut_and_tt ut_now tt_now)
 unfolding same between within leap months sum up_from years days_before2000 day_count day_number year_refused month_days
     day_refused tai_minus_utc before_step last_second time_refused ms_of_day utc ut_of tt_of ut1_minus_utc_refused instants
 evening_is = refl

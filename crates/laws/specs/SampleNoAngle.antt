@@ -1,10 +1,9 @@
 -- Three places worked out by the rules alone, to the last unit, on the evening of `SampleNight`, where an angle is
 -- missing: a star at the pole of date, a star at the zenith, and the first again where the pole is at the zenith.
-use Rattle.std.specs.Prelude.{refl}
+use Rattle.std.specs.Prelude.{refl, Some, None}
 use Rattle.rules.specs.declared.Star.{Star}
 use Rattle.rules.specs.declared.Site.{Site}
 use Rattle.rules.specs.declared.Night.{Night}
-use Rattle.rules.specs.declared.Read.{Read}
 use Rattle.rules.specs.declared.Place.{Place}
 use Rattle.rules.specs.Units.{+◌, −◌, same}
 use Rattle.rules.specs.Rounding.{rnd, rnd_size, modulo, remainder}
@@ -28,9 +27,9 @@ pole_star = record { ra = + 10315798983; declination = + 323471053674; ra_motion
 -- it stands due north: that azimuth of nought is an angle
 abbrev pub pole_place : Place
 pole_place = record {
-  ra = Read.NoAngle;
+  ra = None;
   declination = + 324000000000;
-  azimuth = Read.Angle (+ 0);
+  azimuth = Some (+ 0);
   altitude = + 180315999951;
 }
 
@@ -48,9 +47,9 @@ zenith_star = record { ra = + 476318159297; declination = + 180659983868; ra_mot
 
 abbrev pub zenith_place : Place
 zenith_place = record {
-  ra = Read.Angle (+ 478026476842);
+  ra = Some (+ 478026476842);
   declination = + 180315000075;
-  azimuth = Read.NoAngle;
+  azimuth = None;
   altitude = + 324000000000;
 }
 
@@ -64,9 +63,9 @@ pole_night = tonight_by (pair_of (+ 1073741824) (+ 0))
 
 abbrev pub pole_and_zenith : Place
 pole_and_zenith = record {
-  ra = Read.NoAngle;
+  ra = None;
   declination = + 324000000000;
-  azimuth = Read.NoAngle;
+  azimuth = None;
   altitude = + 324000000000;
 }
 

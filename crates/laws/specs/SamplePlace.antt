@@ -1,14 +1,12 @@
 -- Two places worked out by the rules alone, to the last unit, in the night of `SampleNight`: of Sirius, which README's
 -- program prints, and of the star at the equinox.
-use Rattle.std.specs.Prelude.{◌≡◌, refl, false}
+use Rattle.std.specs.Prelude.{◌≡◌, refl, false, Ok, Some}
 use Rattle.std.proofs.Common.{ap, ◌∙◌}
 use Rattle.rules.specs.declared.Direction.{Direction}
 use Rattle.rules.specs.declared.Star.{Star}
 use Rattle.rules.specs.declared.Site.{Site}
 use Rattle.rules.specs.declared.Night.{Night}
-use Rattle.rules.specs.declared.Read.{Read}
 use Rattle.rules.specs.declared.Place.{Place}
-use Rattle.rules.specs.declared.Placed.{Placed}
 use Rattle.rules.specs.Units.{+◌, −◌, same}
 use Rattle.rules.specs.Rounding.{rnd, rnd_size, modulo, remainder}
 use Rattle.rules.specs.Length.{root_from, root, square, pair_squares, squares, part_to, pair_to_length, to_length}
@@ -52,12 +50,12 @@ place_of_steps n s {v5 = v5} h =
 
 -- a star that is accepted, at a site that is
 pub stands : (site : Site) (n : Night) (s : Star) {p : Place} → site_refused site ≡ false
-    → night ut_now tt_now site ≡ n → star_refused s ≡ false → place_in n s ≡ p → place evening s site ≡ Placed.At p
+    → night ut_now tt_now site ≡ n → star_refused s ≡ false → place_in n s ≡ p → place evening s site ≡ Ok p
 unfolding place place_at
 stands site n s k e h f = ap (λ i. place_at i s site) evening_is
     ∙ rw (k, h)
-    (ap (λ n. Placed.At (place_in n s)) e
-    ∙ ap Placed.At f)
+    (ap (λ n. Ok (place_in n s)) e
+    ∙ ap Ok f)
 
 -- ---- two stars
 
@@ -76,18 +74,18 @@ equinox = record { ra = + 0; declination = + 0; ra_motion = + 0; declination_mot
 -- its place
 abbrev pub sirius_place : Place
 sirius_place = record {
-  ra = Read.Angle (+ 365681806136);
+  ra = Some (+ 365681806136);
   declination = − 60318907174;
-  azimuth = Read.Angle (+ 760999294392);
+  azimuth = Some (+ 760999294392);
   altitude = + 63789291757;
 }
 
 -- its place
 abbrev pub equinox_place : Place
 equinox_place = record {
-  ra = Read.Angle (+ 1196050306);
+  ra = Some (+ 1196050306);
   declination = + 519739595;
-  azimuth = Read.Angle (+ 1098507954979);
+  azimuth = Some (+ 1098507954979);
   altitude = − 91944771011;
 }
 

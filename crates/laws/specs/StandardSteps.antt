@@ -1,6 +1,6 @@
 -- By how much the lift falls from one lifted altitude to a higher, in any weather: for each part that x rises by, where
 -- g is at most 50,000,000,000 µas, and for each 96 µas that g rises by, above.
-use Rattle.std.specs.Prelude.{◌≡◌, true, ℕ, ◌+◌, ◌*◌, ◌-◌, ◌/◌, ◌≤◌, ℤ, pos, nat_abs}
+use Rattle.std.specs.Prelude.{◌≡◌, true, ℕ, ◌+◌, ◌*◌, ◌-◌, ◌/◌, ◌≤◌, ℤ, pos, nat_abs, Option}
 use Rattle.std.proofs.Common.{mul-le-mul, mul-le-mul_left, arith, lit≤}
 use Rattle.std.proofs.Math.Decide.{dec_le}
 use Rattle.rules.specs.Units.{unit, quarter}

@@ -1,14 +1,12 @@
--- What `times` prints: its lines put into a room piece by piece; a refused date refuses its moment.
-use Rattle.std.specs.Prelude.{◌≡◌, refl, Bool, true, false, cond, List, [], ◌∷◌, ◌++◌, ℕ, suc, ◌+◌, ◌≤◌, set, length, ℤ, pos, nat_abs}
+-- What `times` prints: its lines from their parts, and how long they are; a refused date refuses its moment.
+use Rattle.std.specs.Prelude.{◌≡◌, refl, Bool, true, false, cond, List, [], ◌∷◌, ◌++◌, ℕ, suc, ◌+◌, ◌≤◌, set, length, ℤ, pos, nat_abs, Result, Ok, Err, Option, Some, None}
 use Rattle.std.proofs.Common.{sym, ◌∙◌, append_assoc, add-one, arith, lit≤, length-append}
 use Rattle.std.proofs.lemmas.List.Edits.{sets}
 use Rattle.rules.specs.declared.Ut.{Ut}
 use Rattle.rules.specs.declared.Tt.{Tt}
 use Rattle.rules.specs.declared.Moment.{Moment}
 use Rattle.rules.specs.declared.Refusal.{Refusal}
-use Rattle.rules.specs.declared.Numbered.{Numbered}
 use Rattle.rules.specs.declared.Instants.{Instants}
-use Rattle.rules.specs.declared.Line.{Line}
 use Rattle.rules.specs.Units.{century}
 use Rattle.rules.specs.Refusals.{number}
 use Rattle.rules.specs.Calendar.{day_number, year_refused, day_refused, day_of}
@@ -20,6 +18,7 @@ use Rattle.laws.specs.DayNumbers.{real_number_le}
 use Rattle.laws.specs.Instants.{instants_real, ut_within, tt_within}
 use Rattle.laws.specs.Decimal.{word_limit, length_decimal}
 use Rattle.laws.specs.PuttingBytes.{sets_append}
+use Rattle.rules.specs.Dates.{ut_and_tt}
 
 -- ---- `refused N`
 
@@ -30,13 +29,13 @@ pub refused_line_is : (n : ℕ) → refused_line n ≡ refused_text ++ decimal (
 unfolding refused_line
 refused_line_is n = refl
 
-pub refused_answer : (n : ℤ) (r : Refusal) → answer_line n (Instants.Refused r) ≡ refused_text ++ decimal (pos (number r))
+pub refused_answer : (n : ℤ) (r : Refusal) → answer_line n (Err r) ≡ refused_text ++ decimal (pos (number r))
 unfolding answer_line
 refused_answer n r = refused_line_is (number r)
 
 -- ---- day number, UT and TT
 
-pub at_answer : (n : ℤ) (u : Ut) (t : Tt) → answer_line n (Instants.At u t) ≡ three_numbers n u.0 t.0
+pub at_answer : (n : ℤ) (u : Ut) (t : Tt) → answer_line n (Ok (ut_and_tt u t)) ≡ three_numbers n u.0 t.0
 unfolding answer_line
 at_answer n u t = refl
 
@@ -57,17 +56,17 @@ three_rows l x y z a b e f =
 -- ---- a date that is refused refuses its moment
 
 answered : (a b c d : Bool) (n : ℤ) (u : Ut) (t : Tt) (r : Refusal)
-    → cond a (Numbered.Refused Refusal.Year) (cond b (Numbered.Refused Refusal.Day) (Numbered.Day n))
-    ≡ Numbered.Refused r
-    → cond a (Instants.Refused Refusal.Year) (cond b (Instants.Refused Refusal.Day)
-    (cond c (Instants.Refused Refusal.Time) (cond d (Instants.Refused Refusal.Ut1MinusUtc) (Instants.At u t))))
-    ≡ Instants.Refused r
+    → cond a (Err Refusal.Year) (cond b (Err Refusal.Day) (Ok n))
+    ≡ Err r
+    → cond a (Err Refusal.Year) (cond b (Err Refusal.Day)
+    (cond c (Err Refusal.Time) (cond d (Err Refusal.Ut1MinusUtc) (Ok (ut_and_tt u t)))))
+    ≡ Err r
 answered true b c d n u t r e = cc
 answered false true c d n u t r e = cc
 answered false false c d n u t r e = let z : true ≡ false = cc in true_not_false z
 
-pub instants_of_refused : (m : Moment) (r : Refusal) → day_of m.date ≡ Numbered.Refused r → instants m
-    ≡ Instants.Refused r
+pub instants_of_refused : (m : Moment) (r : Refusal) → day_of m.date ≡ Err r → instants m
+    ≡ Err r
 unfolding day_of instants
 instants_of_refused m r e =
     answered (year_refused m.date) (day_refused m.date) (time_refused (day_number m.date) m.time)
@@ -106,14 +105,14 @@ three_le a b c h k l =
     rw (three_numbers_are a b c)
     (simp length-append (omega (arith, decimal_le a h, decimal_le b k, decimal_le c l)))
 
-answer_le : (m : Moment) (i : Instants) → instants m ≡ i → length (answer_line (day_number m.date) i) ≤ 62
+answer_le : (m : Moment) (i : Result Instants Refusal) → instants m ≡ i → length (answer_line (day_number m.date) i) ≤ 62
 unfolding answer_line
-answer_le m (Instants.At u t) e =
-    let r = real_number_le m.date (instants_real m u t e).date in
-    three_le (day_number m.date) u.0 t.0 (omega arith) (ut_within m u t e) (tt_within m u t e)
-answer_le m (Instants.Refused r) e = omega (arith, refused_line_le (number r) (number_le r))
+answer_le m (Ok i) e =
+    let r = real_number_le m.date (instants_real m i.ut i.tt e).date in
+    three_le (day_number m.date) i.ut.0 i.tt.0 (omega arith) (ut_within m i.ut i.tt e) (tt_within m i.ut i.tt e)
+answer_le m (Err r) e = omega (arith, refused_line_le (number r) (number_le r))
 
-pub printed_le : (line : Line) → length (printed line) ≤ 62
+pub printed_le : (line : Option Moment) → length (printed line) ≤ 62
 unfolding printed
-printed_le (Line.Of m) = answer_le m (instants m) refl
-printed_le Line.Other = omega (arith, refused_line_le 0 (lit≤ tt))
+printed_le (Some m) = answer_le m (instants m) refl
+printed_le None = omega (arith, refused_line_le 0 (lit≤ tt))

@@ -1,11 +1,10 @@
 -- The weather record keeps its fields finite and in range, from no reading on and by every step.
-use Rattle.std.specs.Prelude.{◌≡◌, refl, Bool, true, false, cond, ◌&&◌, ◌≤◌, ℤ, pos, nat_abs, Float}
+use Rattle.std.specs.Prelude.{◌≡◌, refl, Bool, true, false, cond, ◌&&◌, ◌≤◌, ℤ, pos, nat_abs, Float, Ok, Err}
 use Rattle.std.proofs.Common.{arith}
 use Rattle.std.specs.Float.{fin}
 use Rattle.std.specs.Float.Ieee.{le}
 use Rattle.rules.specs.declared.Reading.{Reading}
 use Rattle.rules.specs.declared.Weather.{Weather}
-use Rattle.rules.specs.declared.Weathered.{Weathered}
 use Rattle.integers.specs.Difference.{le_z_true}
 use Rattle.integers.specs.Size.{abs_le}
 use Rattle.rules.specs.Units.{between, +◌, −◌}
@@ -114,6 +113,6 @@ unfolding taken weathered_record
 taken_kept w r h = by (is_accepted r) refl
   where
     by : (b : Bool) → is_accepted r ≡ b
-        → Kept (weathered_record (cond b (Weathered.Now (with_reading w r)) (Weathered.Refused w)))
+        → Kept (weathered_record (cond b (Ok (with_reading w r)) (Err w)))
     by true e = with_kept w r h e
     by false e = h

@@ -1,10 +1,9 @@
 -- The record that C keeps: what the module answered it takes back as it was, and any other is taken only with its
 -- fields in range. So the fields are in range at the start, after any readings, and whatever C hands back.
-use Rattle.std.specs.Prelude.{◌≡◌, refl, Bool, true, false, cond, List, [], ◌∷◌, Float}
+use Rattle.std.specs.Prelude.{◌≡◌, refl, Bool, true, false, cond, List, [], ◌∷◌, Float, Ok, Err}
 use Rattle.std.proofs.Common.{sym, ap, subst, ◌∙◌, arith}
 use Rattle.rules.specs.declared.Reading.{Reading}
 use Rattle.rules.specs.declared.Weather.{Weather}
-use Rattle.rules.specs.declared.Weathered.{Weathered}
 use Rattle.rules.specs.Units.{between}
 use Rattle.rules.specs.Refusals.{number}
 use Rattle.rules.specs.Answers.{weathered_number, weathered_record}
@@ -23,12 +22,12 @@ mended_keeps w t = record {
   no_temperature = λ e. rw e;
 }
 
-pub recorded_keeps : (w v : Weather) → recorded w ≡ Weathered.Now v → Kept v
+pub recorded_keeps : (w v : Weather) → recorded w ≡ Ok v → Kept v
 unfolding recorded weathered_number weathered_record number
 recorded_keeps w v e = by (in_range (mended w)) refl e
   where
     by : (b : Bool) → in_range (mended w) ≡ b
-        → cond b (Weathered.Now (mended w)) (Weathered.Refused w) ≡ Weathered.Now v → Kept v
+        → cond b (Ok (mended w)) (Err w) ≡ Ok v → Kept v
     by true t e = subst Kept (ap weathered_record e) (mended_keeps w t)
     by false t e = absurd (omega (arith, ap weathered_number e))
 
@@ -46,7 +45,7 @@ mended_kept w h = rw (
 )
 
 -- is taken back as it is, and a reading into it as into one that never left
-pub recorded_kept : (w : Weather) → Kept w → recorded w ≡ Weathered.Now w
+pub recorded_kept : (w : Weather) → Kept w → recorded w ≡ Ok w
 unfolding recorded
 recorded_kept w h = rw (mended_kept w h, in_range_of_fields w h.fields)
 
@@ -55,15 +54,15 @@ unfolding taken_from taken_in taken stays
 taken_from_kept w r h = ap (λ a. taken_in w a r) (recorded_kept w h) ∙ either (is_accepted r)
   where
     either : (b : Bool)
-        → stays w (cond b (Weathered.Now (with_reading w r)) (Weathered.Refused w))
-        ≡ cond b (Weathered.Now (with_reading w r)) (Weathered.Refused w)
+        → stays w (cond b (Ok (with_reading w r)) (Err w))
+        ≡ cond b (Ok (with_reading w r)) (Err w)
     either true = refl
     either false = refl
 
 -- a record of which nothing has come, all noughts say, is the one before any reading
 pub nothing_come : (p t : Float)
     → recorded (record { pressure = p; temperature = t; has_pressure = false; has_temperature = false })
-    ≡ Weathered.Now no_weather
+    ≡ Ok no_weather
 unfolding recorded mended no_weather in_range is_pressure is_temperature lies finite numerator denominator with_sign between
 nothing_come p t = refl
 

@@ -2,13 +2,15 @@
 
 // The length of a direction: whether it is accepted, and bringing to length.
 
-ghost use Rattle.std.specs.Prelude.{◌≡◌, not, ◌<◌, ◌^◌, pos, nat_abs};
+ghost use Rattle.std.specs.Prelude.{◌≡◌, not, ◌+◌, ◌<◌, ◌^◌, true, pos, nat_abs, IsTrue, ◌↔◌, All};
+ghost use Rattle.rules.specs.Units.{unit, within};
 ghost use Rattle.rules.specs.Length.{squares, part_to, root, to_length};
 ghost use Rattle.rules.specs.Turning.{direction_refused};
 ghost use Rattle.length.specs.Given.{PartFits, HasLength, NotNought};
 
 use rules::Direction;
 use units::UNIT;
+use whole::is_between;
 
 // No part of an accepted direction is larger: the square of 2^30 + 2 is above 2^60 + 2^32.
 const REACH: i64 = 1073741825;
@@ -53,6 +55,14 @@ pub fn part_to(part: i64, l: i64) -> i64
     rounding::rnd_short_quotient(part * UNIT, l)
 }
 
+// Whether each part is in reach.
+#[tactic(auto, unfolding(rules::specs::Units::within))]
+fn in_reach(parts: &[i64; 3]) -> bool
+    ensures { IsTrue result ↔ All (λ part. within (unit + 1) part ≡ true) parts.now }
+{
+    parts.iter().all(|part| is_between(-REACH, REACH, *part))
+}
+
 // Whether v is accepted: its squared length is within 2^32 of 2^60, both ends included.
 //
 // Given: v, any three numbers.
@@ -62,16 +72,7 @@ pub fn part_to(part: i64, l: i64) -> i64
 pub fn accepted(v: Direction) -> bool
     ensures { result ≡ not (direction_refused v) }
 {
-    if !whole::is_between(-REACH, REACH, v.x) {
-        return false;
-    }
-    if !whole::is_between(-REACH, REACH, v.y) {
-        return false;
-    }
-    if !whole::is_between(-REACH, REACH, v.z) {
-        return false;
-    }
-    whole::is_between(LEAST, MOST, squares_sum(v))
+    in_reach(&[v.x, v.y, v.z]) && is_between(LEAST, MOST, squares_sum(v))
 }
 
 // v brought to the length 2^30, where it is known not to be nought.

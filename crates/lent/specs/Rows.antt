@@ -1,6 +1,6 @@
 -- The types that the walks pass, read and write: how each is spelt in memory, that a value of it is of its MIR type,
 -- and that its relation makes what it owns.
-use Rattle.std.specs.Prelude.{refl, ℕ, [], ◌∷◌, T}
+use Rattle.std.specs.Prelude.{refl, ℕ, [], ◌∷◌, T, Result}
 use seplogic.Ra.Ura.{Ura}
 use mir.Syntax.{Ty, w64, ty_int}
 use mir.Val.{Val, vbool, vint, WT, has_ty}
@@ -13,15 +13,24 @@ use denote.Plain.{bool_Tells, uint_Tells}
 use denote.Struct.Declared.{shape}
 use denote.Struct.Struct.{Struct-row_laws}
 use denote.Struct.Laws as LL
+use denote.Enum.Declared as ED
+use denote.Enum.Declared.{shape as enum_shape}
+use denote.Enum.Enum.{layout}
 use denote.Enum.Laws as EL
+use denote.Param.Laws.{of_field, field_told}
+use denote.Param.Shared.{copy_shared}
+use denote.Struct.Field.{u64-field}
+use denote.Struct.Laws.{u64-laws, u64-copy, u64-plain}
 use Rattle.lent.specs.Callees.{Spelt}
 use Rattle.lent.specs.Entries.{Element}
 use Rattle.rules.specs.declared.Entry.{Entry}
-use Rattle.rules.specs.declared.Listed.{Listed}
 use Rattle.rules.specs.contracts.Entry as E
 use Rattle.rules.proofs.Entry.TheLaws as E'
-use Rattle.rules.specs.contracts.Listed as L
-use Rattle.rules.proofs.Listed.TheLaws as L'
+use Rattle.std.specs.contracts.result.Result as L
+use Rattle.std.proofs.result.Result.TheLaws as L'
+use Rattle.rules.specs.contracts.Refusal as F
+use Rattle.rules.proofs.Refusal.TheLaws as F'
+use Rattle.rules.specs.declared.Refusal.{Refusal}
 
 -- the bytes of an entry, which lie one entry from the next
 abbrev pub entry_bytes : ℕ
@@ -57,14 +66,22 @@ abbrev pub entry_element : Element EntryRow
 entry_element = record { spelt = entries; τ = EntryTy; one = λ q v b o. refl }
 
 -- ---- an answer about a list
+abbrev pub Listed : ED.Declared
+Listed = L.the_type u64-field.row F.the_row
+
 abbrev pub ListedRow : RattleType
-ListedRow = L.the_row
+ListedRow = L.the_row u64-field.row F.the_row
+
+abbrev pub listed_laws : EL.Laws Listed
+listed_laws =
+    L'.the_laws u64-field.row F.the_row (of_field u64-field u64-laws refl (copy_shared u64-field u64-copy)) F'.the_row_laws
+    (field_told u64-field u64-laws) F'.the_told
 
 abbrev pub ListedTy : Ty
-ListedTy = L'.mir
+ListedTy = layout (enum_shape Listed)
 
 abbrev pub listeds : Spelt ListedRow
-listeds = record { val = EL.val L.the_type L'.the_laws; tells = EL.tells L.the_type L'.the_laws }
+listeds = record { val = EL.val Listed listed_laws; tells = EL.tells Listed listed_laws }
 
 -- the laws of the row of entries, which today's record of a row doesn't hold
 pub entry_laws : RowLaws EntryRow
@@ -83,10 +100,10 @@ module _ {M : Type 1} {𝓤 : Ura M} (𝓛 : Logic 𝓤) where
   entry_shared = LL.copied E.the_type E'.the_copy 𝓛
 
   pub listed_made : Makes 𝓛 ListedRow (Is ListedRow)
-  listed_made = EL.makes L.the_type L'.the_plain 𝓛
+  listed_made = EL.makes Listed (L'.the_plain u64-field.row F.the_row u64-plain F'.the_row_plain) 𝓛
 
   pub entry_typed : (e : Entry) (v : Val) → Is EntryRow e (v ∷ []) → T (has_ty EntryTy v) × WT v
   entry_typed e v is = ((LL.lawful E.the_type E'.the_laws 𝓛).typed e (v ∷ []) is).0
 
-  pub listed_typed : (r : Listed) (v : Val) → Is ListedRow r (v ∷ []) → T (has_ty ListedTy v) × WT v
-  listed_typed r v is = ((EL.lawful L.the_type L'.the_laws 𝓛 tt).typed r (v ∷ []) is).0
+  pub listed_typed : (r : Result ℕ Refusal) (v : Val) → Is ListedRow r (v ∷ []) → T (has_ty ListedTy v) × WT v
+  listed_typed r v is = ((EL.lawful Listed listed_laws 𝓛 tt).typed r (v ∷ []) is).0

@@ -1,10 +1,9 @@
 -- Our own program `places`, not document 01: the line that it reads, in bytes. Definitions only.
 -- The line is one of `times`, a space, the latitude, a space, the longitude:
 -- `YYYY-MM-DD hh:mm:ss.mmm d latitude longitude`, both in µas, each an optional minus and then 1 to 12 digits.
-use Rattle.std.specs.Prelude.{ℕ, suc, ◌+◌, Bool, cond, ◌&&◌, List, [], ◌∷◌, ◌++◌, length, take, drop, eqb}
+use Rattle.std.specs.Prelude.{ℕ, suc, ◌+◌, Bool, cond, ◌&&◌, List, [], ◌∷◌, ◌++◌, length, take, drop, eqb, Option, Some, None}
 use Rattle.rules.specs.declared.Moment.{Moment}
 use Rattle.rules.specs.declared.Site.{Site}
-use Rattle.rules.specs.declared.Line.{Line}
 use Rattle.rules.specs.Refusals.{Answer, given, other_form}
 use Rattle.rules.specs.Answers.{moment_numbers}
 use Rattle.rules.specs.Numerals.{space, of_number, signed}
@@ -30,6 +29,11 @@ first_word bs = take (word_length bs) bs
 unfoldable pub after_word : List ℕ → List ℕ
 after_word bs = drop (word_length bs + 1) bs
 
+-- ---- what is asked
+
+abbrev pub asked_for : Moment → Site → Asked
+asked_for m site = record { moment = m; site = site }
+
 -- ---- the site
 
 -- the most digits of an angle: of half a circle, in µas
@@ -46,23 +50,23 @@ site_in bs = record { latitude = signed (first_word bs); longitude = signed (aft
 -- ---- the line
 
 -- a moment, and what follows its line and a space
-unfoldable pub with_site : Moment → List ℕ → Asked
-with_site m bs = cond (of_site bs) (Asked.For m (site_in bs)) Asked.Other
+unfoldable pub with_site : Moment → List ℕ → Option Asked
+with_site m bs = cond (of_site bs) (Some (asked_for m (site_in bs))) None
 
-unfoldable pub asked_in : Line → List ℕ → Asked
-asked_in (Line.Of m) bs = with_site m bs
-asked_in Line.Other bs = Asked.Other
+unfoldable pub asked_in : Option Moment → List ℕ → Option Asked
+asked_in (Some m) bs = with_site m bs
+asked_in None bs = None
 
 -- where the line of `times` ends: at the first space after its form, or where all ends
 unfoldable pub moment_end : List ℕ → ℕ
 moment_end line = length form + word_length (drop (length form) line)
 
 -- a line without its end
-unfoldable pub asked_of : List ℕ → Asked
+unfoldable pub asked_of : List ℕ → Option Asked
 asked_of line = asked_in (line_of (take (moment_end line) line)) (drop (moment_end line + 1) line)
 
 -- ---- number and values: the eight numbers of the moment, latitude, longitude
 
-unfoldable pub asked_answer : Asked → Answer
-asked_answer (Asked.For m site) = given (moment_numbers m ++ site.latitude ∷ site.longitude ∷ [])
-asked_answer Asked.Other = other_form
+unfoldable pub asked_answer : Option Asked → Answer
+asked_answer (Some a) = given (moment_numbers a.moment ++ a.site.latitude ∷ a.site.longitude ∷ [])
+asked_answer None = other_form

@@ -1,14 +1,13 @@
 -- A long line of `places` is of another form, so a line is told by its first 58 bytes.
-use Rattle.std.specs.Prelude.{◌≡◌, refl, Bool, true, false, ◌&&◌, List, ℕ, ◌+◌, ◌≤◌, ltb, length, take, drop}
+use Rattle.std.specs.Prelude.{◌≡◌, refl, Bool, true, false, ◌&&◌, List, ℕ, ◌+◌, ◌≤◌, ltb, length, take, drop, Option, Some, None}
 use Rattle.std.proofs.Common.{sym, ap, ◌∙◌, arith, length-take, length-drop, take_all, length-take-le, ltb-true, ltb-false}
-use Rattle.rules.specs.declared.Line.{Line}
 use Rattle.rules.specs.Numerals.{of_number}
 use Rattle.rules.specs.Lines.{line_of}
 use Rattle.laws.specs.Lines.{number_long, long_other}
-use Rattle.line_asked.specs.declared.Asked.{Asked}
 use Rattle.line_asked.specs.Asking.{word_length, first_word, after_word, of_site, with_site, asked_in}
 use Rattle.line_asked.specs.Asking.{moment_end, asked_of}
 use Rattle.line_asked.specs.Words.{word_le, both_false, asked_short}
+use Rattle.rules.specs.declared.Moment.{Moment}
 
 first_length : (bs : List ℕ) → length (first_word bs) ≡ word_length bs
 unfolding first_word
@@ -26,21 +25,21 @@ site_long bs h = go (ltb 13 (word_length bs)) refl
         (number_long 12 (after_word bs)
         (omega (arith, length-drop (word_length bs + 1) bs, ltb-false 13 (word_length bs) e)))
 
-asked_in_long : (l : Line) (bs : List ℕ) → 28 ≤ length bs → asked_in l bs ≡ Asked.Other
+asked_in_long : (l : Option Moment) (bs : List ℕ) → 28 ≤ length bs → asked_in l bs ≡ None
 unfolding asked_in with_site
-asked_in_long (Line.Of m) bs h = rw (site_long bs h)
-asked_in_long Line.Other bs h = refl
+asked_in_long (Some m) bs h = rw (site_long bs h)
+asked_in_long None bs h = refl
 
-asked_other : (l : Line) (bs : List ℕ) → l ≡ Line.Other → asked_in l bs ≡ Asked.Other
+asked_other : (l : Option Moment) (bs : List ℕ) → l ≡ None → asked_in l bs ≡ None
 unfolding asked_in
 asked_other l bs e = rw e
 
-pub asked_long : (line : List ℕ) → 58 ≤ length line → asked_of line ≡ Asked.Other
+pub asked_long : (line : List ℕ) → 58 ≤ length line → asked_of line ≡ None
 unfolding asked_of
 asked_long line h = go (ltb 29 (moment_end line)) (ltb (moment_end line) (length line)) refl refl
   where
     go : (b d : Bool) → ltb 29 (moment_end line) ≡ b → ltb (moment_end line) (length line) ≡ d
-        → asked_in (line_of (take (moment_end line) line)) (drop (moment_end line + 1) line) ≡ Asked.Other
+        → asked_in (line_of (take (moment_end line) line)) (drop (moment_end line + 1) line) ≡ None
     go false d e f =
         asked_in_long (line_of (take (moment_end line) line)) (drop (moment_end line + 1) line)
         (omega (arith, length-drop (moment_end line + 1) line, ltb-false 29 (moment_end line) e))

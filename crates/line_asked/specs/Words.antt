@@ -1,12 +1,10 @@
 -- Words of a line: found byte by byte; and a line with no site after its first words is of another form.
-use Rattle.std.specs.Prelude.{◌≡◌, refl, Bool, true, false, cond, ◌&&◌, List, [], ◌∷◌, ℕ, zero, suc, ◌+◌, ◌-◌, ◌≤◌, ◌<◌, eqb, length, take, drop, get_or}
+use Rattle.std.specs.Prelude.{◌≡◌, refl, Bool, true, false, cond, ◌&&◌, List, [], ◌∷◌, ℕ, zero, suc, ◌+◌, ◌-◌, ◌≤◌, ◌<◌, eqb, length, take, drop, get_or, Option, Some, None}
 use Rattle.std.proofs.Common.{ap, ◌∙◌, add-one, arith, length-drop, drop-cons, eq-eqb, ne_eqb}
 use Rattle.rules.specs.declared.Moment.{Moment}
-use Rattle.rules.specs.declared.Line.{Line}
 use Rattle.rules.specs.Numerals.{space, negative, unsigned, of_digits, of_number}
 use Rattle.rules.specs.Lines.{line_of}
 use Rattle.laws.specs.Lines.{to_end}
-use Rattle.line_asked.specs.declared.Asked.{Asked}
 use Rattle.line_asked.specs.Asking.{length_before, word_length, first_word, after_word, of_site, with_site, asked_in}
 use Rattle.line_asked.specs.Asking.{moment_end, asked_of}
 
@@ -74,15 +72,15 @@ site_short bs h =
     both_false (of_number 12 (first_word bs)) (of_number 12 (drop (w + 1) bs))
     (ap (of_number 12) (nothing_left (drop (w + 1) bs) (omega (arith, length-drop (w + 1) bs))) ∙ none_is_no_number 12)
 
-pub with_none : (m : Moment) → with_site m [] ≡ Asked.Other
+pub with_none : (m : Moment) → with_site m [] ≡ None
 unfolding with_site length_before
 with_none m = rw (site_short [] (omega arith))
 
 -- no site
-pub asked_none : (l : Line) (bs : List ℕ) → length bs ≡ 0 → asked_in l bs ≡ Asked.Other
+pub asked_none : (l : Option Moment) (bs : List ℕ) → length bs ≡ 0 → asked_in l bs ≡ None
 unfolding asked_in
-asked_none (Line.Of m) bs h = ap (with_site m) (nothing_left bs h) ∙ with_none m
-asked_none Line.Other bs h = refl
+asked_none (Some m) bs h = ap (with_site m) (nothing_left bs h) ∙ with_none m
+asked_none None bs h = refl
 
 -- ---- the parts of a line, as a slice has them
 
@@ -109,7 +107,7 @@ end_is line n e = ap (λ k. 24 + k) (e ∙ ap word_length (to_end line 24))
 
 -- ---- a line that ends before its site is of another form
 
-pub asked_short : (line : List ℕ) → length line ≤ moment_end line → asked_of line ≡ Asked.Other
+pub asked_short : (line : List ℕ) → length line ≤ moment_end line → asked_of line ≡ None
 unfolding asked_of
 asked_short line h =
     asked_none (line_of (take (moment_end line) line)) (drop (moment_end line + 1) line)

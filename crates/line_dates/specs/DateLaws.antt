@@ -1,12 +1,11 @@
 -- What `dates` prints for a line: how long it is, how it is put into a room, and which bytes of the line tell it.
-use Rattle.std.specs.Prelude.{◌≡◌, refl, Bool, true, false, cond, List, ◌∷◌, ◌++◌, ℕ, ◌+◌, ◌≤◌, ltb, pos, length, take}
+use Rattle.std.specs.Prelude.{◌≡◌, refl, Bool, true, false, cond, List, ◌∷◌, ◌++◌, ℕ, ◌+◌, ◌≤◌, ltb, pos, length, take, Result, Ok, Err}
 use Rattle.std.proofs.Common.{sym, ap, ◌∙◌, arith, lit≤, length-append, length-take, take_all, ltb-true, ltb-false}
 use Rattle.std.proofs.lemmas.List.Edits.{sets}
 use Rattle.rules.specs.declared.Date.{Date}
 use Rattle.rules.specs.declared.Time.{Time}
 use Rattle.rules.specs.declared.Utc.{Utc}
 use Rattle.rules.specs.declared.Refusal.{Refusal}
-use Rattle.rules.specs.declared.Clocked.{Clocked}
 use Rattle.rules.specs.Refusals.{number}
 use Rattle.rules.specs.Numerals.{space, hyphen, point, colon, of_number, signed}
 use Rattle.rules.specs.Times.{decimal, refused_line}
@@ -32,10 +31,10 @@ unfolding utc_text
 utc_length u = length-append (date_text u.date) (time_text u.time)
     ∙ omega (arith, date_length u.date, time_length u.time)
 
-clocked_le : (c : Clocked) → length (clocked_text c) ≤ 28
+clocked_le : (c : Result Utc Refusal) → length (clocked_text c) ≤ 28
 unfolding clocked_text
-clocked_le (Clocked.At u) = omega (arith, utc_length u)
-clocked_le (Clocked.Refused r) = refused_line_le (number r) (number_le r)
+clocked_le (Ok u) = omega (arith, utc_length u)
+clocked_le (Err r) = refused_line_le (number r) (number_le r)
 
 pub date_line_le : (line : List ℕ) → length (date_line line) ≤ 28
 unfolding date_line
@@ -84,11 +83,11 @@ utc_rows room u = row_after room (date_text u.date) (time_text u.time) 0 10 (ome
 
 -- ---- by cases
 
-pub at_text : (u : Utc) → clocked_text (Clocked.At u) ≡ utc_text u
+pub at_text : (u : Utc) → clocked_text (Ok u) ≡ utc_text u
 unfolding clocked_text
 at_text u = refl
 
-pub refused_text_lem : (r : Refusal) → clocked_text (Clocked.Refused r) ≡ refused_text ++ decimal (pos (number r))
+pub refused_text_lem : (r : Refusal) → clocked_text (Err r) ≡ refused_text ++ decimal (pos (number r))
 unfolding clocked_text
 refused_text_lem r = refused_line_is (number r)
 

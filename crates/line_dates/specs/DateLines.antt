@@ -1,16 +1,16 @@
 -- Our own program `dates`, not document 01: what it prints for a line, and in all. Definitions only.
 -- A line is a TT in ms, an optional minus and 1 to 18 digits; it gets its UTC date and time, or `refused 20`, and a
 -- line of another form `refused 0`. There is no header.
-use Rattle.std.specs.Prelude.{ℕ, cond, List, [], ◌∷◌, ◌++◌, map, ltb, ℤ, nat_abs, length}
+use Rattle.std.specs.Prelude.{ℕ, cond, List, [], ◌∷◌, ◌++◌, map, ltb, ℤ, nat_abs, length, Result, Ok, Err}
 use Rattle.rules.specs.declared.Date.{Date}
 use Rattle.rules.specs.declared.Time.{Time}
 use Rattle.rules.specs.declared.Utc.{Utc}
-use Rattle.rules.specs.declared.Clocked.{Clocked}
 use Rattle.rules.specs.Refusals.{number}
 use Rattle.rules.specs.Numerals.{space, hyphen, point, colon, of_number, signed}
 use Rattle.rules.specs.Times.{refused_line, overlaid, lines_of, ended}
 use Rattle.rules.specs.Utc.{utc_of_tt}
 use Rattle.laws.specs.Decimal.{last_digits}
+use Rattle.rules.specs.declared.Refusal.{Refusal}
 
 -- ---- a UTC time
 
@@ -31,9 +31,9 @@ unfoldable pub utc_text : Utc → List ℕ
 utc_text u = date_text u.date ++ time_text u.time
 
 -- the UTC time, or the refusal
-unfoldable pub clocked_text : Clocked → List ℕ
-clocked_text (Clocked.At u) = utc_text u
-clocked_text (Clocked.Refused r) = refused_line (number r)
+unfoldable pub clocked_text : Result Utc Refusal → List ℕ
+clocked_text (Ok u) = utc_text u
+clocked_text (Err r) = refused_line (number r)
 
 -- ---- a line
 

@@ -1,62 +1,51 @@
-// A UTC time, or its refusal, put at the front of lent memory.
+// A UTC time, or its refusal, as a text.
 
-ghost use Rattle.std.specs.Prelude.{◌≡◌, ◌∷◌, ◌+◌, ◌≤◌, length};
-ghost use Rattle.std.proofs.lemmas.List.Edits.{sets};
+ghost use Rattle.std.specs.Prelude.{◌≡◌, ◌+◌, ◌≤◌, ◌++◌};
+ghost use Rattle.arrayvec.specs.ArrayVec.{array_vec_len};
 ghost use Rattle.line_dates.specs.DateLines as rule;
 
-use decimals::{put_digits, put_refused};
-use rules::{Clocked, Date, Time, Utc};
-
-// A byte, and then the last digits of n.
-fn put_marked(mark: u8, n: i32, digits: usize, at: usize, out: &mut [u8])
-    requires { (digits ≤ 3) × (at + 4 ≤ length out.old) }
-    ensures { out.new
-        ≡ sets out.old at (mark ∷ rule.field_text digits n) }
-{
-    out[at] = mark;
-    put_digits(n as i64, digits, at + 1, out);
-}
+use arrayvec::ArrayVec;
+use decimals::{put_digits, put_marked, refused};
+use rules::{Date, Refusal, Time, Utc};
 
 // `YYYY-MM-DD`.
-fn put_date(date: Date, out: &mut [u8])
-    requires { 64 ≤ length out.old }
-    ensures { out.new ≡ sets out.old 0 (rule.date_text date) }
+fn put_date(date: Date, out: &mut ArrayVec<u8, 64>)
+    requires { array_vec_len out.old + 10 ≤ 64 }
+    ensures items { out.new.items ≡ out.old.items ++ rule.date_text date }
+    ensures len { array_vec_len out.new ≡ array_vec_len out.old + 10 }
 {
-    put_digits(date.year as i64, 4, 0, out);
-    put_marked(b'-', date.month, 2, 4, out);
-    put_marked(b'-', date.day, 2, 7, out);
+    put_digits(i64::from(date.year), 4, out);
+    put_marked(b'-', i64::from(date.month), 2, out);
+    put_marked(b'-', i64::from(date.day), 2, out);
 }
 
-// A space and `hh:mm:ss.mmm`, after the date.
-fn put_time(time: Time, out: &mut [u8])
-    requires { 64 ≤ length out.old }
-    ensures { out.new ≡ sets out.old 10 (rule.time_text time) }
+// A space and `hh:mm:ss.mmm`.
+fn put_time(time: Time, out: &mut ArrayVec<u8, 64>)
+    requires { array_vec_len out.old + 13 ≤ 64 }
+    ensures { out.new.items ≡ out.old.items ++ rule.time_text time }
 {
-    put_marked(b' ', time.hour, 2, 10, out);
-    put_marked(b':', time.minute, 2, 13, out);
-    put_marked(b':', time.second, 2, 16, out);
-    put_marked(b'.', time.ms, 3, 19, out);
+    put_marked(b' ', i64::from(time.hour), 2, out);
+    put_marked(b':', i64::from(time.minute), 2, out);
+    put_marked(b':', i64::from(time.second), 2, out);
+    put_marked(b'.', i64::from(time.ms), 3, out);
 }
 
 // A UTC time.
-fn put_utc(utc: Utc, out: &mut [u8]) -> usize
-    requires { 64 ≤ length out.old }
-    ensures value { result ≡ length (rule.utc_text utc) }
-    ensures out_after { out.new ≡ sets out.old 0 (rule.utc_text utc) }
+fn utc_text(utc: Utc) -> ArrayVec<u8, 64>
+    ensures { result.items ≡ rule.utc_text utc }
 {
-    put_date(utc.date, out);
-    put_time(utc.time, out);
-    23
+    let mut text = ArrayVec::new();
+    put_date(utc.date, &mut text);
+    put_time(utc.time, &mut text);
+    text
 }
 
 // A UTC time, or the refusal.
-pub fn put_clocked(clocked: Clocked, out: &mut [u8]) -> usize
-    requires { 64 ≤ length out.old }
-    ensures value { result ≡ length (rule.clocked_text clocked) }
-    ensures out_after { out.new ≡ sets out.old 0 (rule.clocked_text clocked) }
+pub fn clocked_text(clocked: Result<Utc, Refusal>) -> ArrayVec<u8, 64>
+    ensures { result.items ≡ rule.clocked_text clocked }
 {
     match clocked {
-        Clocked::At(utc) => put_utc(utc, out),
-        Clocked::Refused(r) => put_refused(refusals::number(r), out),
+        Ok(utc) => utc_text(utc),
+        Err(r) => refused(refusals::number(r)),
     }
 }

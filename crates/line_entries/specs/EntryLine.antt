@@ -15,6 +15,15 @@ dash = 45 ∷ []
 unfoldable pub or_dash : ℤ → List ℕ → List ℕ
 or_dash height angle = cond (eqb (nat_abs height) quarter) dash angle
 
+-- an angle and the height beside it, each as it is written
+abbrev pub beside : (ℤ → List ℕ) → (ℤ → List ℕ) → ℤ → ℤ → List ℕ
+beside written height_written angle height =
+    spaced (or_dash height (written angle)) ++ spaced (height_written height)
+
+-- four angles, each as it is written
+abbrev pub four_angles : (ℤ → List ℕ) → (ℤ → List ℕ) → (ℤ → List ℕ) → Angles → List ℕ
+four_angles ra azimuth height a = beside ra height a.ra a.declination ++ beside azimuth height a.azimuth a.altitude
+
 -- an angle and the height beside it, in µas
 unfoldable pub two : ℤ → ℤ → List ℕ
 two angle height = spaced (or_dash height (decimal angle)) ++ spaced (decimal height)

@@ -1,5 +1,5 @@
 -- How long the line of an entry is, and its parts.
-use Rattle.std.specs.Prelude.{Bool, true, false, cond, List, ◌++◌, ℕ, ◌+◌, ◌^◌, ◌≤◌, eqb, ℤ, pos, nat_abs, length}
+use Rattle.std.specs.Prelude.{Bool, true, false, cond, List, ◌++◌, ℕ, ◌^◌, ◌≤◌, eqb, ℤ, pos, nat_abs, length}
 use Rattle.std.proofs.Common.{arith, lit≤, length-append}
 use Rattle.rules.specs.declared.Angles.{Angles}
 use Rattle.rules.specs.declared.Entry.{Entry}

@@ -1,104 +1,51 @@
-// A right ascension or an azimuth and the height beside it, with a dash where the entry has no such
-// angle: that is where the height is a quarter, and there alone.
+// The four angles of an entry, with a dash where it has no right ascension or azimuth: that is
+// where the height beside it is a quarter, and there alone.
 
-ghost use Rattle.std.specs.Prelude.{◌≡◌, ◌≤◌, ◌+◌, eqb, nat_abs, length};
-ghost use Rattle.std.proofs.lemmas.List.Edits.{sets};
+ghost use Rattle.std.specs.Prelude.{◌≡◌, ◌≤◌, ◌+◌, ◌++◌, eqb, nat_abs};
+ghost use Rattle.arrayvec.specs.ArrayVec.{array_vec_len};
 ghost use Rattle.rules.specs.Units.{quarter};
-ghost use Rattle.rules.specs.Times.{decimal};
-ghost use Rattle.sexagesimal.specs.Sexagesimal.{spaced, hours, bearing};
+ghost use Rattle.sexagesimal.specs.Sexagesimal.{spaced};
 ghost use Rattle.line_entries.specs.EntryLine as rule;
 
-use crate::put_spaced;
-use sexagesimal::{put_bearing, put_elevation, put_hours};
+use crate::styles::Style;
+use arrayvec::ArrayVec;
+use rules::Angles;
 use units::QUARTER;
-
-const MINUS_QUARTER: i64 = -QUARTER;
 
 // Whether a height is a quarter, up or down.
 fn is_quarter(height: i64) -> bool
     ensures { result ≡ eqb (nat_abs height) quarter }
 {
-    height == QUARTER || height == MINUS_QUARTER
+    height == QUARTER || height == -QUARTER
 }
 
 // A space and a dash.
-fn put_dash(at: usize, out: &mut [u8]) -> usize
-    requires { at + 2 ≤ length out.old }
-    ensures value { result ≡ at + length (spaced rule.dash) }
-    ensures out_after { out.new ≡ sets out.old at (spaced rule.dash) }
+fn put_dash<const N: usize>(out: &mut ArrayVec<u8, N>)
+    requires { array_vec_len out.old + 2 ≤ N }
+    ensures items { out.new.items ≡ out.old.items ++ spaced rule.dash }
+    ensures len { array_vec_len out.new ≡ array_vec_len out.old + 2 }
 {
-    out[at] = 32;
-    out[at + 1] = 45;
-    at + 2
+    out.push(b' ');
+    out.push(b'-');
 }
 
-// The angle in µas, or the dash.
-fn put_number(angle: i64, height: i64, at: usize, out: &mut [u8]) -> usize
-    requires { at + 21 ≤ length out.old }
-    ensures value { result ≡ at + length (spaced (rule.or_dash height (decimal angle))) }
-    ensures out_after { out.new
-        ≡ sets out.old at (spaced (rule.or_dash height (decimal angle))) }
+// Right ascension and declination, azimuth and altitude.
+pub fn put_angles<const N: usize, S: Style<N>>(angles: Angles, out: &mut ArrayVec<u8, N>)
+    requires { array_vec_len out.old + 84 ≤ N }
+    ensures items { out.new.items
+        ≡ out.old.items ++ rule.four_angles S.ra S.azimuth S.height angles }
+    ensures short { array_vec_len out.new ≤ array_vec_len out.old + 84 }
 {
-    if is_quarter(height) {
-        return put_dash(at, out);
+    if is_quarter(angles.declination) {
+        put_dash(out);
+    } else {
+        S::put_ra(angles.ra, out);
     }
-    put_spaced(angle, at, out)
-}
-
-// The right ascension for people, or the dash.
-fn put_ra(angle: i64, height: i64, at: usize, out: &mut [u8]) -> usize
-    requires { at + 13 ≤ length out.old }
-    ensures value { result ≡ at + length (spaced (rule.or_dash height (hours angle))) }
-    ensures out_after { out.new
-        ≡ sets out.old at (spaced (rule.or_dash height (hours angle))) }
-{
-    if is_quarter(height) {
-        return put_dash(at, out);
+    S::put_height(angles.declination, out);
+    if is_quarter(angles.altitude) {
+        put_dash(out);
+    } else {
+        S::put_azimuth(angles.azimuth, out);
     }
-    put_hours(angle, at, out)
-}
-
-// The azimuth for people, or the dash.
-fn put_azimuth(angle: i64, height: i64, at: usize, out: &mut [u8]) -> usize
-    requires { at + 13 ≤ length out.old }
-    ensures value { result ≡ at + length (spaced (rule.or_dash height (bearing angle))) }
-    ensures out_after { out.new
-        ≡ sets out.old at (spaced (rule.or_dash height (bearing angle))) }
-{
-    if is_quarter(height) {
-        return put_dash(at, out);
-    }
-    put_bearing(angle, at, out)
-}
-
-// An angle and the height beside it, in µas.
-pub fn put_two(angle: i64, height: i64, at: usize, out: &mut [u8]) -> usize
-    requires { at + 42 ≤ length out.old }
-    ensures value { result ≡ at + length (rule.two angle height) }
-    ensures out_after { out.new ≡ sets out.old at (rule.two angle height) }
-{
-    let a = put_number(angle, height, at, out);
-    put_spaced(height, a, out)
-}
-
-// Right ascension and declination for people.
-pub fn put_equatorial(ra: i64, declination: i64, at: usize, out: &mut [u8]) -> usize
-    requires { at + 42 ≤ length out.old }
-    ensures value { result ≡ at + length (rule.equatorial ra declination) }
-    ensures out_after { out.new
-        ≡ sets out.old at (rule.equatorial ra declination) }
-{
-    let a = put_ra(ra, declination, at, out);
-    put_elevation(declination, a, out)
-}
-
-// Azimuth and altitude for people.
-pub fn put_horizontal(azimuth: i64, altitude: i64, at: usize, out: &mut [u8]) -> usize
-    requires { at + 42 ≤ length out.old }
-    ensures value { result ≡ at + length (rule.horizontal azimuth altitude) }
-    ensures out_after { out.new
-        ≡ sets out.old at (rule.horizontal azimuth altitude) }
-{
-    let a = put_azimuth(azimuth, altitude, at, out);
-    put_elevation(altitude, a, out)
+    S::put_height(angles.altitude, out);
 }

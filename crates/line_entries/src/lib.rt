@@ -1,61 +1,51 @@
 #![tactic(auto)]
 
-// The line of an entry, of our own program `places`, put at the front of lent memory.
+// The line of an entry, of our own program `places`, appended to a text.
 
-ghost use Rattle.std.specs.Prelude.{◌≡◌, ◌≤◌, ◌+◌, length};
-ghost use Rattle.std.proofs.lemmas.List.Edits.{sets};
+ghost use Rattle.std.specs.Prelude.{◌≡◌, ◌≤◌, ◌+◌, ◌++◌};
+ghost use Rattle.arrayvec.specs.ArrayVec.{array_vec_len};
 ghost use Rattle.rules.specs.Times.{decimal};
 ghost use Rattle.line_entries.specs.EntryLine as rule;
 ghost use Rattle.sexagesimal.specs.Sexagesimal.{spaced};
 
-use crate::angles::{put_equatorial, put_horizontal, put_two};
+use crate::angles::put_angles;
+use crate::styles::{People, Plain};
+use arrayvec::ArrayVec;
 use decimals::put;
-use rules::{Angles, Entry};
+use rules::Entry;
 
+pub mod air;
 mod angles;
 pub mod observed;
+mod styles;
 
 // A space and a number.
-fn put_spaced(n: i64, at: usize, out: &mut [u8]) -> usize
-    requires { at + 21 ≤ length out.old }
-    ensures value { result ≡ at + length (spaced (decimal n)) }
-    ensures out_after { out.new ≡ sets out.old at (spaced (decimal n)) }
+fn put_spaced<const N: usize>(n: i64, out: &mut ArrayVec<u8, N>)
+    requires { array_vec_len out.old + 21 ≤ N }
+    ensures items { out.new.items ≡ out.old.items ++ spaced (decimal n) }
+    ensures short { array_vec_len out.new ≤ array_vec_len out.old + 21 }
 {
-    out[at] = 32;
-    put(n, at + 1, out)
+    out.push(b' ');
+    put(n, out);
 }
 
-// Four angles in µas.
-fn put_plain(angles: Angles, at: usize, out: &mut [u8]) -> usize
-    requires { at + 84 ≤ length out.old }
-    ensures value { result ≡ at + length (rule.plain_angles angles) }
-    ensures out_after { out.new ≡ sets out.old at (rule.plain_angles angles) }
+// Number, mark and four angles of an entry. Whether for people is a bool, as docs/PROMISES.md names
+// it: inside, a style is a type.
+pub fn put_entry<const N: usize>(
+    index: usize,
+    entry: Entry,
+    people: bool,
+    out: &mut ArrayVec<u8, N>,
+)
+    requires { (index ≤ 64) × (array_vec_len out.old + 125 ≤ N) }
+    ensures items { out.new.items ≡ out.old.items ++ rule.entry_line people index entry }
+    ensures short { array_vec_len out.new ≤ array_vec_len out.old + 125 }
 {
-    let a = put_two(angles.ra, angles.declination, at, out);
-    put_two(angles.azimuth, angles.altitude, a, out)
-}
-
-// Four angles for people.
-fn put_people(angles: Angles, at: usize, out: &mut [u8]) -> usize
-    requires { at + 84 ≤ length out.old }
-    ensures value { result ≡ at + length (rule.people_angles angles) }
-    ensures out_after { out.new ≡ sets out.old at (rule.people_angles angles) }
-{
-    let a = put_equatorial(angles.ra, angles.declination, at, out);
-    put_horizontal(angles.azimuth, angles.altitude, a, out)
-}
-
-// Number, mark and four angles of an entry.
-pub fn put_entry(index: usize, entry: Entry, people: bool, out: &mut [u8]) -> usize
-    requires { (index ≤ 64) × (128 ≤ length out.old) }
-    ensures value { result ≡ length (rule.entry_line people index entry) }
-    ensures out_after { out.new
-        ≡ sets out.old 0 (rule.entry_line people index entry) }
-{
-    let a = put(index as i64, 0, out);
-    let b = put_spaced(entry.mark as i64, a, out);
+    put(index as i64, out);
+    put_spaced(i64::from(entry.mark), out);
     if people {
-        return put_people(entry.angles, b, out);
+        put_angles::<N, People>(entry.angles, out);
+    } else {
+        put_angles::<N, Plain>(entry.angles, out);
     }
-    put_plain(entry.angles, b, out)
 }

@@ -1,43 +1,51 @@
 // The observed altitude of an entry, in a column of its own.
 
-ghost use Rattle.std.specs.Prelude.{◌≡◌, ◌≤◌, ◌+◌, length};
-ghost use Rattle.std.proofs.lemmas.List.Edits.{sets};
-ghost use Rattle.laws.specs.Refraction.{Air};
+ghost use Rattle.std.specs.Prelude.{◌≡◌, ◌≤◌, ◌+◌, ◌++◌};
+ghost use Rattle.arrayvec.specs.ArrayVec.{array_vec_len};
 ghost use Rattle.line_entries.specs.Observed as rule;
 
-use crate::put_spaced;
+use crate::air::{AcceptedAir, Air};
+use crate::styles::{People, Plain, Style};
+use arrayvec::ArrayVec;
 use marks::is_filled;
 use refraction::lift_at;
 use rules::Entry;
-use sexagesimal::put_elevation;
 
-// The altitude of an entry and its lift, by the tenths of pressure and temperature.
-fn observed_of(p: i64, t: i64, entry: Entry) -> i64
-    requires { Air p t }
-    ensures { result ≡ rule.observed_of p t entry }
+// The altitude of an entry and its lift in an air.
+fn observed_of(air: AcceptedAir, entry: Entry) -> i64
+    ensures { result ≡ rule.observed_of air.pressure air.temperature entry }
 {
     if is_filled(entry) {
         let h = entry.angles.altitude;
-        return h + lift_at(h, p, t);
+        let Air {
+            pressure,
+            temperature,
+        } = air.air;
+        return h + lift_at(h, pressure, temperature);
     }
     0
 }
 
 // The observed altitude after a space, in µas or for people.
 //
-// Given: p from 5,000 to 11,000 and t from -500 to 500, the tenths of pressure and temperature; any
-// entry; whether for people; a place of the room.
-// Returned: the place after what is put.
+// Given: an accepted air; any entry; whether for people, as the rule `observed_column` takes it; a
+// text with 21 bytes free.
 // Rule: specs/Observed.antt.
-pub fn put_observed(p: i64, t: i64, entry: Entry, people: bool, at: usize, out: &mut [u8]) -> usize
-    requires { Air p t × (at + 21 ≤ length out.old) }
-    ensures value { result ≡ at + length (rule.observed_column people p t entry) }
-    ensures out_after { out.new
-        ≡ sets out.old at (rule.observed_column people p t entry) }
+pub fn put_observed<const N: usize>(
+    air: AcceptedAir,
+    entry: Entry,
+    people: bool,
+    out: &mut ArrayVec<u8, N>,
+)
+    requires { array_vec_len out.old + 21 ≤ N }
+    ensures items { out.new.items
+        ≡ out.old.items ++ rule.observed_column people air.pressure air.temperature entry }
+    ensures short { array_vec_len out.new ≤ array_vec_len out.old + 21 }
 {
-    let h = observed_of(p, t, entry);
+    let h = observed_of(air, entry);
     if people {
-        return put_elevation(h, at, out);
+        People::put_height(h, out);
+    } else {
+        Plain::put_height(h, out);
     }
-    put_spaced(h, at, out)
 }

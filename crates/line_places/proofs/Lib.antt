@@ -1,3 +1,5 @@
 pub mod Cuts
 pub mod ListedLines
+pub mod Parts
 pub mod WithoutWeather
+pub mod Words

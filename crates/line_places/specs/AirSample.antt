@@ -1,6 +1,6 @@
 -- What the program prints for the two stars of PlacesSample.antt with pressure and temperature, worked out by the rules
 -- alone, byte for byte: Sirius is lifted, and the star at the equinox stands too low.
-use Rattle.std.specs.Prelude.{◌≡◌, refl, true, false, List, [], ◌∷◌, ◌++◌, ℕ}
+use Rattle.std.specs.Prelude.{◌≡◌, refl, true, false, List, [], ◌∷◌, ◌++◌, ℕ, Option, Some}
 use Rattle.std.proofs.Common.{◌∙◌}
 use Rattle.rules.specs.Units.{+◌, −◌, between}
 use Rattle.rules.specs.Rounding.{rnd, rnd_size, modulo}
@@ -17,12 +17,12 @@ use Rattle.numerals.specs.Tenths.{has_point, before_point, after_point, of_size,
 use Rattle.sexagesimal.specs.Sexagesimal.{marked, clock, sexagesimal, round_in, hours, bearing, sign_of, elevation}
 use Rattle.line_entries.specs.EntryLine.{or_dash, two, equatorial, horizontal, plain_angles, people_angles, entry_line}
 use Rattle.line_entries.specs.Observed.{observed_of, observed_column}
-use Rattle.line_places.specs.declared.air.Air.{Air}
-use Rattle.line_places.specs.declared.command.Command.{Command}
+use Rattle.line_entries.specs.declared.air.Air.{Air}
 use Rattle.line_places.specs.Air.{air_accepted}
 use Rattle.line_places.specs.Answers.{line_in}
 use Rattle.line_places.specs.Program.{header, header_in, places, people_word, with_air, command_of}
 use Rattle.line_places.specs.PlacesSample.{sample_input, sample_file, sirius_entry, equinox_entry, printed}
+use Rattle.line_places.specs.Air.{command_for, air_of}
 
 -- `1013.2` and `-10.5`
 abbrev pressure : List ℕ
@@ -31,8 +31,8 @@ pressure = 49 ∷ 48 ∷ 49 ∷ 51 ∷ 46 ∷ 50 ∷ []
 abbrev temperature : List ℕ
 temperature = 45 ∷ 49 ∷ 48 ∷ 46 ∷ 53 ∷ []
 
-abbrev air : Air
-air = Air.Of (+ 10132) (− 105)
+abbrev air : Option Air
+air = Some (air_of (+ 10132) (− 105))
 
 -- `0 0 365681806136 -60318907174 760999294392 63789291757 63990955932`,
 -- `1 0 1196050306 519739595 1098507954979 -91944771011 -91944771011`
@@ -58,12 +58,12 @@ air_people_output = header ++ 32 ∷ 111 ∷ 98 ∷ 115 ∷ newline ∷
 
 -- ---- the words
 
-pub sample_command : command_of 4 pressure temperature [] ≡ Command.For false air
+pub sample_command : command_of 4 pressure temperature [] ≡ Some (command_for false air)
 unfolding command_of with_air of_tenths tenths_of of_size size_of has_point before_point after_point is_digit alike of_form
     negative unsigned of_digits spelled
 sample_command = refl
 
-pub sample_command_for_people : command_of 5 people_word pressure temperature ≡ Command.For true air
+pub sample_command_for_people : command_of 5 people_word pressure temperature ≡ Some (command_for true air)
 unfolding command_of with_air of_tenths tenths_of of_size size_of has_point before_point after_point is_digit alike of_form
     negative unsigned of_digits spelled same_bytes
 sample_command_for_people = refl

@@ -1,5 +1,5 @@
 -- The words of a command: two rows of bytes that are found the same, and what a command is by its words.
-use Rattle.std.specs.Prelude.{◌≡◌, Bool, ◌&&◌, List, [], ◌∷◌, ℕ, eqb}
+use Rattle.std.specs.Prelude.{◌≡◌, Bool, ◌&&◌, List, [], ◌∷◌, ℕ, eqb, Some, None}
 use Rattle.std.proofs.Math.Path.{refl}
 use Rattle.std.proofs.Common.{sym, ap, ◌∙◌}
 use Rattle.std.proofs.Math.Bool.{true, false, cond}
@@ -7,9 +7,8 @@ use borrow.Author.Tests.{eq-eqb, ne_eqb}
 use Rattle.rules.specs.Bytes.{same_bytes}
 use Rattle.laws.specs.FileTests.{same_bytes_lem}
 use Rattle.laws.specs.Ranges.{true_not_false}
-use Rattle.line_places.specs.declared.air.Air.{Air}
-use Rattle.line_places.specs.declared.command.Command.{Command}
 use Rattle.line_places.specs.Program.{people_word, with_air, command_of}
+use Rattle.line_places.specs.Air.{command_for}
 
 -- ---- rows of bytes
 
@@ -29,12 +28,12 @@ same_is xs ys false found told = sym (go (same_bytes xs ys) refl)
 -- ---- a command, by how many words it has
 
 module _ (words : ℕ) (third fourth fifth : List ℕ) where
-  pub command_of_2 : words ≡ 2 → command_of words third fourth fifth ≡ Command.For false Air.Unknown
+  pub command_of_2 : words ≡ 2 → command_of words third fourth fifth ≡ Some (command_for false None)
   unfolding command_of
   command_of_2 e = rw e
 
   pub command_of_3 : words ≡ 3 → same_bytes third people_word ≡ true
-      → command_of words third fourth fifth ≡ Command.For true Air.Unknown
+      → command_of words third fourth fifth ≡ Some (command_for true None)
   unfolding command_of
   command_of_3 e s = rw (e, s)
 
@@ -49,12 +48,12 @@ module _ (words : ℕ) (third fourth fifth : List ℕ) where
 
   -- another third word
   pub command_of_another : (words ≡ 2 → ⊥) → (words ≡ 4 → ⊥) → same_bytes third people_word ≡ false
-      → command_of words third fourth fifth ≡ Command.Other
+      → command_of words third fourth fifth ≡ None
   unfolding command_of
   command_of_another h k s = rw (ne_eqb words 2 h, ne_eqb words 4 k, s) (go (eqb words 3) (eqb words 5))
     where
-      go : (a b : Bool) → cond (a && false) (Command.For true Air.Unknown)
-          (cond (b && false) (with_air true fourth fifth) Command.Other) ≡ Command.Other
+      go : (a b : Bool) → cond (a && false) (Some (command_for true None))
+          (cond (b && false) (with_air true fourth fifth) None) ≡ None
       go true true = refl
       go true false = refl
       go false true = refl
@@ -62,6 +61,6 @@ module _ (words : ℕ) (third fourth fifth : List ℕ) where
 
   -- another number of words
   pub command_else : (words ≡ 2 → ⊥) → (words ≡ 4 → ⊥) → (words ≡ 3 → ⊥) → (words ≡ 5 → ⊥)
-      → command_of words third fourth fifth ≡ Command.Other
+      → command_of words third fourth fifth ≡ None
   unfolding command_of
   command_else h k l m = rw (ne_eqb words 2 h, ne_eqb words 3 l, ne_eqb words 4 k, ne_eqb words 5 m)

@@ -1,20 +1,17 @@
 -- What the program keeps of a file and of standard input decides as the whole would: bytes past the room of the longest
 -- file that is accepted, bytes past a line that can be of the form, and bytes past the first LF do not matter.
-use Rattle.std.specs.Prelude.{◌≡◌, refl, Bool, true, false, cond, List, [], ◌∷◌, ◌++◌, ℕ, zero, suc, ◌+◌, ◌≤◌, eqb, ltb, length, take}
-use Rattle.std.proofs.Common.{sym, ap, ◌∙◌, arith, lit≤, length-take, take-take, take_all, le-leb, ltb-true, ltb-false}
-use Rattle.rules.specs.declared.Refusal.{Refusal}
-use Rattle.rules.specs.declared.Listed.{Listed}
+use Rattle.std.specs.Prelude.{◌≡◌, refl, Bool, true, false, cond, List, [], ◌∷◌, ◌++◌, ℕ, zero, suc, ◌+◌, ◌≤◌, eqb, ltb, length, take, Option}
+use Rattle.std.proofs.Common.{ap, arith, lit≤, length-take, take-take, le-leb, ltb-true, ltb-false}
 use Rattle.rules.specs.Times.{newline}
 use Rattle.rules.specs.Bytes.{part, unsigned_at}
 use Rattle.rules.specs.ListFile.{head_length, most_records, count_in, file_length, record_at}
-use Rattle.rules.specs.ListReading.{mark_refused, count_refused, list_count}
+use Rattle.rules.specs.ListReading.{mark_refused, count_refused}
 use Rattle.laws.specs.FileTests.{count_many, count_fails}
 use Rattle.line_asked.specs.Asking.{length_before}
 use Rattle.line_asked.specs.LongLines.{asked_cut}
-use Rattle.line_places.specs.declared.air.Air.{Air}
+use Rattle.line_entries.specs.declared.air.Air.{Air}
 use Rattle.line_places.specs.Answers.{begun}
 use Rattle.line_places.specs.Program.{first_line, places}
-use Rattle.line_places.specs.Printed.{file_refused}
 
 -- the room for a file: of 64 records, and a byte more
 abbrev pub file_kept : ℕ
@@ -38,7 +35,7 @@ first_line_cut (suc k) (b ∷ bs) = go (eqb b newline) (first_line_cut k bs)
     go true e = refl
     go false e = ap (λ rest. b ∷ rest) e
 
-pub input_cut : (people : Bool) (air : Air) (file input : List ℕ)
+pub input_cut : (people : Bool) (air : Option Air) (file input : List ℕ)
     → places people air file (take line_kept input) ≡ places people air file input
 unfolding places begun
 input_cut people air file input = rw (first_line_cut line_kept input, asked_cut (first_line input) line_kept (lit≤ tt))
@@ -55,7 +52,7 @@ first_line_end (b ∷ bs) after = go (eqb b newline) (first_line_end bs after)
     go true e = refl
     go false e = ap (λ rest. b ∷ rest) e
 
-pub after_line : (people : Bool) (air : Air) (file before after : List ℕ)
+pub after_line : (people : Bool) (air : Option Air) (file before after : List ℕ)
     → places people air file (before ++ newline ∷ after) ≡ places people air file before
 unfolding places
 after_line people air file before after = rw (first_line_end before after)

@@ -1,14 +1,12 @@
 -- How long a line of the answer is at most.
-use Rattle.std.specs.Prelude.{◌≡◌, Bool, cond, List, ℕ, ◌-◌, ◌≤◌, ℤ, pos, negsuc, nat_abs}
+use Rattle.std.specs.Prelude.{◌≡◌, Bool, cond, List, ℕ, ◌-◌, ◌≤◌, ℤ, pos, negsuc, nat_abs, Result, Ok, Err, Option, Some, None}
 use Rattle.std.proofs.Math.Path.{refl}
 use Rattle.std.proofs.Math.Bool.{true, false}
 use Rattle.std.proofs.Common.{arith, lit≤, length-append}
 use Rattle.std.proofs.Math.ListN.{length}
-use Rattle.rules.specs.declared.Read.{Read}
 use Rattle.rules.specs.declared.Star.{Star}
 use Rattle.rules.specs.declared.Entry.{Entry}
 use Rattle.rules.specs.declared.Night.{Night}
-use Rattle.rules.specs.declared.ListedStar.{ListedStar}
 use Rattle.rules.specs.Units.{circle}
 use Rattle.rules.specs.Refusals.{number}
 use Rattle.rules.specs.Answers.{or_nought}
@@ -27,21 +25,24 @@ use Rattle.line_entries.specs.EntryLine.{entry_line}
 use Rattle.line_entries.specs.Observed.{observed_column}
 use Rattle.line_entries.specs.Lengths.{AnglesLe, entry_le}
 use Rattle.line_entries.specs.ObservedAltitude.{observed_of_within, column_le}
-use Rattle.line_places.specs.declared.air.Air.{Air}
+use Rattle.line_entries.specs.declared.air.Air.{Air}
 use Rattle.line_places.specs.Air.{air_accepted}
 use Rattle.line_places.specs.Answers.{line_in, star_line, answer_line}
 use Rattle.line_places.specs.Room.{line_length}
 use Rattle.line_places.specs.AcceptedAir.{accepted_in_range}
 use Rattle.line_places.specs.Entries.{star_index_le}
+use Rattle.rules.specs.declared.Refusal.{Refusal}
 
 -- ---- the line of an entry
 
-pub line_le : (people : Bool) (air : Air) (index : ℕ) (e : Entry) → air_accepted air ≡ true → index ≤ most_records
+pub line_le : (people : Bool) (air : Option Air) (index : ℕ) (e : Entry) → air_accepted air ≡ true → index ≤ most_records
     → e.mark ≤ 255 → AnglesLe e.angles
     → length (line_in people air index e) ≤ line_length
 unfolding line_in
-line_le people Air.Unknown index e a h k l = omega (arith, entry_le people index e h k l)
-line_le people (Air.Of p t) index e a h k l =
+line_le people None index e a h k l = omega (arith, entry_le people index e h k l)
+line_le people (Some air) index e a h k l =
+    let p = air.pressure in
+    let t = air.temperature in
     let w = observed_of_within p t (accepted_in_range p t a) e l.altitude in
     omega (
       arith,
@@ -63,9 +64,9 @@ or_nought_le : (h v : ℤ) → nat_abs (or_nought (reading h v)) ≤ circle
 unfolding or_nought
 or_nought_le h v = by (reading h v) refl
   where
-    by : (r : Read) → reading h v ≡ r → nat_abs (or_nought r) ≤ circle
-    by (Read.Angle a) e = up_to_le_lem a (reading_range h v a e)
-    by Read.NoAngle e = lit≤ tt
+    by : (r : Option ℤ) → reading h v ≡ r → nat_abs (or_nought r) ≤ circle
+    by (Some a) e = up_to_le_lem a (reading_range h v a e)
+    by None e = lit≤ tt
 
 place_le : (n : Night) (s : Star) → AnglesLe (angles_of (place_in n s))
 unfolding angles_of place_in readings
@@ -76,7 +77,7 @@ place_le n s = record {
   altitude = height_le (overhead n (apparent n s));
 }
 
-module _ (people : Bool) (air : Air) (accepted : air_accepted air ≡ true) where
+module _ (people : Bool) (air : Option Air) (accepted : air_accepted air ≡ true) where
   pub worked_le : (n : Night) (index : ℕ) (e : Entry) → index ≤ most_records
       → length (line_in people air index (worked n e)) ≤ line_length
   unfolding worked entry_of
@@ -94,6 +95,6 @@ module _ (people : Bool) (air : Air) (accepted : air_accepted air ≡ true) wher
   unfolding answer_line star_line
   answer_le file n index = go (list_star file index) refl
     where
-      go : (s : ListedStar) → list_star file index ≡ s → length (star_line people air n index s) ≤ line_length
-      go (ListedStar.Of s) e = worked_le n index (fresh_entry s) (star_index_le file index s e)
-      go (ListedStar.Refused r) e = omega (arith, refused_line_le (number r) (number_le r))
+      go : (s : Result Star Refusal) → list_star file index ≡ s → length (star_line people air n index s) ≤ line_length
+      go (Ok s) e = worked_le n index (fresh_entry s) (star_index_le file index s e)
+      go (Err r) e = omega (arith, refused_line_le (number r) (number_le r))

@@ -1,17 +1,15 @@
 -- The lines of the entries with their ends, put into a room one after another.
-use Rattle.std.specs.Prelude.{◌≡◌, Bool, true, List, [], ◌∷◌, ◌++◌, length}
+use Rattle.std.specs.Prelude.{◌≡◌, Bool, true, List, [], ◌∷◌, ◌++◌, length, Option, Some, None}
 use Rattle.std.proofs.Math.Path.{refl}
-use Rattle.std.proofs.Common.{sym, ap, ◌∙◌, add-one, arith, length-append}
+use Rattle.std.proofs.Common.{sym, ap, ◌∙◌, add-one, arith, length-append, append_assoc, append-nil}
 use Prim.Native.Nat.{ℕ, zero, suc, ◌+◌, ◌*◌, ◌<◌, ◌≤◌}
-use Rattle.std.proofs.lemmas.List.Edits.{sets}
 use Rattle.rules.specs.declared.Entry.{Entry}
 use Rattle.rules.specs.declared.Night.{Night}
 use Rattle.rules.specs.Times.{ended}
-use Rattle.laws.specs.PuttingBytes.{sets_append}
 use Rattle.laws.specs.LinesWithEnds.{ended_append, ended_length, ended_cons}
 use Rattle.line_entries.specs.EntryLine.{entry_line}
 use Rattle.line_entries.specs.Observed.{observed_column}
-use Rattle.line_places.specs.declared.air.Air.{Air}
+use Rattle.line_entries.specs.declared.air.Air.{Air}
 use Rattle.line_places.specs.Air.{air_accepted}
 use Rattle.line_places.specs.Answers.{line_in, answer_line}
 use Rattle.line_places.specs.Program.{header_in, entry_lines}
@@ -20,18 +18,21 @@ use Rattle.line_places.specs.Room.{line_length, Short}
 use Rattle.line_places.specs.Lengths.{answer_le}
 
 -- the columns before the observed altitude
-pub line_front : (people : Bool) (air : Air) (index : ℕ) (e : Entry)
+pub line_front : (people : Bool) (air : Option Air) (index : ℕ) (e : Entry)
     → length (entry_line people index e) ≤ length (line_in people air index e)
 unfolding line_in
-line_front people Air.Unknown index e = omega arith
-line_front people (Air.Of p t) index e =
-    omega (arith, length-append (entry_line people index e) (observed_column people p t e))
+line_front people None index e = omega arith
+line_front people (Some air) index e =
+    omega (
+      arith,
+      length-append (entry_line people index e) (observed_column people air.pressure air.temperature e),
+    )
 
 -- the header with its end
-pub header_le : (air : Air) → length (ended (header_in air ∷ [])) ≤ 29
+pub header_le : (air : Option Air) → length (ended (header_in air ∷ [])) ≤ 29
 unfolding header_in ended
-header_le Air.Unknown = omega arith
-header_le (Air.Of p t) = omega arith
+header_le None = omega arith
+header_le (Some air) = omega arith
 
 -- one entry more
 pub lines_step : (line : ℕ → List ℕ) (index : ℕ)
@@ -62,7 +63,7 @@ lines_same line other (suc count) same =
     rw (lines_same line other count (λ index h. same index (omega (arith, h))), same count (omega arith))
 
 -- the lines of a file's entries
-module _ (people : Bool) (air : Air) (file : List ℕ) (n : Night) where
+module _ (people : Bool) (air : Option Air) (file : List ℕ) (n : Night) where
   pub entry_lines_are : (count : ℕ) → entry_lines people air file n count ≡ lines_to (answer_line people air file n) count
   unfolding entry_lines lines_to
   entry_lines_are zero = refl
@@ -76,46 +77,29 @@ module _ (people : Bool) (air : Air) (file : List ℕ) (n : Night) where
 
 -- ---- put into a room, one by one
 
--- those of the first `count` entries stand in a room from a place on, and end at another
-pub record LinesPut (line : ℕ → List ℕ) (count : ℕ) (before : List ℕ) (from : ℕ) (room : List ℕ) (at : ℕ) : Type 0 where
-  pub end : at ≡ from + length (ended (lines_to line count))
-  pub put : room ≡ sets before from (ended (lines_to line count))
+-- those of the first `count` entries stand in a room after what stood there before
+pub record LinesPut (line : ℕ → List ℕ) (count : ℕ) (before room : List ℕ) : Type 0 where
+  pub put : room ≡ before ++ ended (lines_to line count)
 
-module _ (line : ℕ → List ℕ) (before : List ℕ) (from : ℕ) where
-  pub none_put : LinesPut line 0 before from before from
+module _ (line : ℕ → List ℕ) (before : List ℕ) where
+  pub none_put : LinesPut line 0 before before
   unfolding lines_to ended
-  none_put = record { end = omega arith; put = refl }
+  none_put = record { put = sym (append-nil before) }
 
-  pub one_more : (index : ℕ) {room : List ℕ} {at : ℕ} (room' : List ℕ) (at' : ℕ)
-      → LinesPut line index before from room at
-      → at' ≡ at + length (ended (line index ∷ []))
-      → room' ≡ sets room at (ended (line index ∷ []))
-      → LinesPut line (index + 1) before from room' at'
-  one_more index {room} {at} room' at' put e f =
+  pub one_more : (index : ℕ) {room : List ℕ} (room' : List ℕ) → LinesPut line index before room
+      → room' ≡ room ++ ended (line index ∷ []) → LinesPut line (index + 1) before room'
+  one_more index {room} room' put e =
       let lines = ended (lines_to line index) in
       let next = ended (line index ∷ []) in
-      let step = lines_step line index in
       record {
-        end = omega (arith, put.end, e, ap length step, length-append lines next);
-        put = f ∙ rw (put.put, put.end) (sym (sets_append before from lines next))
-            ∙ ap (sets before from) (sym step);
+        put = e ∙ ap (λ l. l ++ next) put.put ∙ append_assoc before lines next
+            ∙ ap (λ l. before ++ l) (sym (lines_step line index));
       }
 
   -- and after the header, all of them
-  pub all_put : (header : List ℕ) (count index : ℕ) (headed : List ℕ) {room : List ℕ} {at : ℕ} → index ≡ count
-      → from ≡ length (ended (header ∷ [])) → headed ≡ sets before 0 (ended (header ∷ []))
-      → LinesPut line index headed from room at
-      → (at ≡ length (ended (header ∷ lines_to line count)))
-      × (room ≡ sets before 0 (ended (header ∷ lines_to line count)))
-  all_put header count index headed {room} {at} all e f put =
-      let head = ended (header ∷ []) in
-      let lines = ended (lines_to line count) in
-      let split = ended_cons header (lines_to line count) in
-      let place : from ≡ 0 + length head = omega (arith, e) in
-      let end : at ≡ from + length lines =
-      put.end ∙ ap (λ k. from + length (ended (lines_to line k))) all in
-      let is : room ≡ sets headed from lines =
-      put.put ∙ ap (λ k. sets headed from (ended (lines_to line k))) all in (
-        omega (arith, end, e, ap length split, length-append head lines),
-        is ∙ rw (place, f) (sym (sets_append before 0 head lines)) ∙ ap (sets before 0) (sym split),
-      )
+  pub all_put : (header : List ℕ) (count index : ℕ) {room : List ℕ} → index ≡ count → before ≡ ended (header ∷ [])
+      → LinesPut line index before room → room ≡ ended (header ∷ lines_to line count)
+  all_put header count index all headed put =
+      put.put ∙ ap (λ k. before ++ ended (lines_to line k)) all
+      ∙ ap (λ l. l ++ ended (lines_to line count)) headed
+      ∙ sym (ended_cons header (lines_to line count))

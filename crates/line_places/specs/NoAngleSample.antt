@@ -1,11 +1,10 @@
 -- What the program prints for the two stars of `laws/specs/SampleNoAngle.antt`, each of which lacks an angle, byte for
 -- byte.
-use Rattle.std.specs.Prelude.{◌≡◌, refl, Bool, true, false, List, [], ◌∷◌, ℕ}
+use Rattle.std.specs.Prelude.{◌≡◌, refl, Bool, true, false, List, [], ◌∷◌, ℕ, Ok, None}
 use Rattle.std.proofs.Common.{◌∙◌}
 use Rattle.rules.specs.declared.Star.{Star}
 use Rattle.rules.specs.declared.Place.{Place}
 use Rattle.rules.specs.declared.Night.{Night}
-use Rattle.rules.specs.declared.ListedStar.{ListedStar}
 use Rattle.rules.specs.Units.{between, within}
 use Rattle.rules.specs.Rounding.{rnd, rnd_size, modulo}
 use Rattle.rules.specs.Answers.{has_angle, or_nought}
@@ -22,12 +21,11 @@ use Rattle.laws.specs.SampleNoAngle.{zenith_night, zenith_star, zenith_place}
 use Rattle.laws.proofs.SampleNoAngle.{zenith_place_lem}
 use Rattle.sexagesimal.specs.Sexagesimal.{marked, clock, sexagesimal, round_in, hours, bearing, sign_of, elevation}
 use Rattle.line_entries.specs.EntryLine.{or_dash, two, equatorial, horizontal, plain_angles, people_angles, entry_line}
-use Rattle.line_places.specs.declared.air.Air.{Air}
 use Rattle.line_places.specs.Answers.{line_in, star_line}
 
 -- a star that is accepted has the line of its place
 line_of : (people : Bool) (n : Night) (index : ℕ) (s : Star) (p : Place) → star_refused s ≡ false → place_in n s ≡ p
-    → star_line people Air.Unknown n index (ListedStar.Of s) ≡ entry_line people index (entry_of s p)
+    → star_line people None n index (Ok s) ≡ entry_line people index (entry_of s p)
 unfolding star_line line_in worked fresh_entry
 line_of people n index s p h e = rw (h, e)
 
@@ -37,7 +35,7 @@ pole_line =
     48 ∷ 32 ∷ 49 ∷ 32 ∷ 45 ∷ 32 ∷ 51 ∷ 50 ∷ 52 ∷ 48 ∷ 48 ∷ 48 ∷ 48 ∷ 48 ∷ 48 ∷ 48 ∷ 48 ∷ 48 ∷ 32 ∷ 48 ∷ 32 ∷ 49
     ∷ 56 ∷ 48 ∷ 51 ∷ 49 ∷ 53 ∷ 57 ∷ 57 ∷ 57 ∷ 57 ∷ 53 ∷ 49 ∷ []
 
-pub pole_printed : star_line false Air.Unknown tonight 0 (ListedStar.Of pole_star) ≡ pole_line
+pub pole_printed : star_line false None tonight 0 (Ok pole_star) ≡ pole_line
 unfolding star_refused between within has_angle or_nought mark_of angles_of entry_of entry_line plain_angles two or_dash decimal
     decimal_before
 pole_printed = line_of false tonight 0 pole_star pole_place refl pole_place_lem ∙ refl
@@ -48,7 +46,7 @@ zenith_line =
     49 ∷ 32 ∷ 49 ∷ 32 ∷ 48 ∷ 56 ∷ 58 ∷ 53 ∷ 49 ∷ 58 ∷ 48 ∷ 56 ∷ 46 ∷ 52 ∷ 51 ∷ 32 ∷ 43 ∷ 53 ∷ 48 ∷ 58 ∷ 48 ∷ 53
     ∷ 58 ∷ 49 ∷ 53 ∷ 46 ∷ 48 ∷ 32 ∷ 45 ∷ 32 ∷ 43 ∷ 57 ∷ 48 ∷ 58 ∷ 48 ∷ 48 ∷ 58 ∷ 48 ∷ 48 ∷ 46 ∷ 48 ∷ []
 
-pub zenith_printed : star_line true Air.Unknown zenith_night 1 (ListedStar.Of zenith_star) ≡ zenith_line
+pub zenith_printed : star_line true None zenith_night 1 (Ok zenith_star) ≡ zenith_line
 unfolding star_refused between within has_angle or_nought mark_of angles_of entry_of entry_line people_angles equatorial
     horizontal or_dash hours bearing elevation round_in sign_of sexagesimal clock marked last_digits rnd rnd_size modulo
     decimal decimal_before

@@ -1,11 +1,9 @@
 -- What the program prints for a list of two stars, worked out by the rules alone, byte for byte: Sirius and the star at
 -- the equinox, on the evening and at the site of `laws/specs/SampleNight.antt`.
-use Rattle.std.specs.Prelude.{◌≡◌, refl, Bool, true, false, List, [], ◌∷◌, ◌++◌, ℕ}
+use Rattle.std.specs.Prelude.{◌≡◌, refl, Bool, true, false, List, [], ◌∷◌, ◌++◌, ℕ, Ok, Option, Some, None}
 use Rattle.rules.specs.declared.Star.{Star}
 use Rattle.rules.specs.declared.Place.{Place}
 use Rattle.rules.specs.declared.Entry.{Entry}
-use Rattle.rules.specs.declared.Listed.{Listed}
-use Rattle.rules.specs.declared.ListedStar.{ListedStar}
 use Rattle.rules.specs.Units.{+◌, −◌, between, within}
 use Rattle.rules.specs.Rounding.{rnd, rnd_size, modulo}
 use Rattle.rules.specs.Stars.{star_refused}
@@ -25,16 +23,16 @@ use Rattle.laws.specs.SampleNight.{evening, here, tonight}
 use Rattle.laws.proofs.SampleNight.{made_ready}
 use Rattle.laws.specs.SamplePlace.{sirius, equinox, sirius_place, equinox_place}
 use Rattle.laws.proofs.SamplePlace.{sirius_place_lem, equinox_place_lem}
-use Rattle.line_asked.specs.declared.Asked.{Asked}
 use Rattle.line_asked.specs.Asking.{length_before, first_word, after_word, of_site, site_in}
 use Rattle.line_asked.specs.Asking.{with_site, asked_in, moment_end, asked_of}
 use Rattle.sexagesimal.specs.Sexagesimal.{marked, clock, sexagesimal, round_in, hours, bearing, sign_of, elevation}
 use Rattle.line_entries.specs.EntryLine.{or_dash, two, equatorial, horizontal, plain_angles, people_angles, entry_line}
-use Rattle.line_places.specs.declared.air.Air.{Air}
+use Rattle.line_entries.specs.declared.air.Air.{Air}
 use Rattle.line_places.specs.Air.{air_accepted}
 use Rattle.line_places.specs.Answers.{Begun, begun_in, begun_for, begun_of, in_air, begun}
 use Rattle.line_places.specs.Answers.{line_in, star_line, answer_line}
 use Rattle.line_places.specs.Program.{header, header_in, entry_lines, answer_lines, first_line, places}
+use Rattle.line_asked.specs.Asking.{asked_for}
 
 -- `2026-03-20 20:00:00.000 0 180316000000 51915000000`
 abbrev pub sample_input : List ℕ
@@ -66,35 +64,35 @@ people_output = header ++ newline ∷
 
 -- ---- what the file and the line come to
 
-file_counts : list_count sample_file ≡ Listed.Count 2
+file_counts : list_count sample_file ≡ Ok 2
 unfolding list_count mark_refused count_refused any_refused star_refused between within count_in stars stars_in file_length
     star_in record_of file_of of_bytes bytes_of signed_of unsigned_of part unsigned_at signed_at signed_bytes same_bytes
 file_counts = refl
 
-line_asks : asked_of (first_line sample_input) ≡ Asked.For evening here
+line_asks : asked_of (first_line sample_input) ≡ Some (asked_for evening here)
 unfolding asked_of asked_in with_site of_site site_in first_word after_word moment_end length_before first_line is_digit alike
     of_form negative unsigned of_digits of_number spelled field signed moment line_of
 line_asks = refl
 
-begins : (air : Air) → air_accepted air ≡ true → begun air sample_file (first_line sample_input) ≡ Begun.For 2 tonight
+begins : (air : Option Air) → air_accepted air ≡ true → begun air sample_file (first_line sample_input) ≡ Begun.For 2 tonight
 unfolding begun in_air begun_of begun_for begun_in
 begins air accepted = rw (file_counts, line_asks, made_ready, accepted)
 
 -- ---- the lines
 
 -- the line of a star that is read, by its place as an entry
-line_is : (people : Bool) (air : Air) (index : ℕ) (s : Star) (p : Place) (e : Entry)
-    → list_star sample_file index ≡ ListedStar.Of s → star_refused s ≡ false → place_in tonight s ≡ p → entry_of s p ≡ e
+line_is : (people : Bool) (air : Option Air) (index : ℕ) (s : Star) (p : Place) (e : Entry)
+    → list_star sample_file index ≡ Ok s → star_refused s ≡ false → place_in tonight s ≡ p → entry_of s p ≡ e
     → answer_line people air sample_file tonight index ≡ line_in people air index e
 unfolding answer_line star_line worked fresh_entry
 line_is people air index s p e i h f g = rw (i, h, f, g)
 
-first_star : list_star sample_file 0 ≡ ListedStar.Of sirius
+first_star : list_star sample_file 0 ≡ Ok sirius
 unfolding list_star star_at star_in record_of file_of file_length of_bytes bytes_of signed_of unsigned_of part unsigned_at signed_at
     signed_bytes
 first_star = rw file_counts
 
-second_star : list_star sample_file 1 ≡ ListedStar.Of equinox
+second_star : list_star sample_file 1 ≡ Ok equinox
 unfolding list_star star_at star_in record_of file_of file_length of_bytes bytes_of signed_of unsigned_of part unsigned_at signed_at
     signed_bytes
 second_star = rw file_counts
@@ -124,7 +122,7 @@ equinox_entry = record {
 }
 
 -- all that is printed, by the two lines
-pub printed : (people : Bool) (air : Air) → air_accepted air ≡ true → places people air sample_file sample_input
+pub printed : (people : Bool) (air : Option Air) → air_accepted air ≡ true → places people air sample_file sample_input
     ≡ ended (header_in air ∷ line_in people air 0 sirius_entry ∷ line_in people air 1 equinox_entry ∷ [])
 unfolding places answer_lines entry_lines star_refused between within entry_of mark_of angles_of has_angle or_nought
 printed people air accepted = rw (
@@ -133,11 +131,11 @@ printed people air accepted = rw (
   line_is people air 1 equinox equinox_place equinox_entry second_star refl equinox_place_lem refl,
 )
 
-pub sample : places false Air.Unknown sample_file sample_input ≡ sample_output
+pub sample : places false None sample_file sample_input ≡ sample_output
 unfolding ended header_in line_in air_accepted entry_line plain_angles two or_dash decimal decimal_before
-sample = printed false Air.Unknown refl
+sample = printed false None refl
 
-pub sample_for_people : places true Air.Unknown sample_file sample_input ≡ people_output
+pub sample_for_people : places true None sample_file sample_input ≡ people_output
 unfolding ended header_in line_in air_accepted entry_line people_angles equatorial horizontal or_dash hours bearing
     elevation round_in sign_of sexagesimal clock marked last_digits rnd rnd_size modulo decimal decimal_before
-sample_for_people = printed true Air.Unknown refl
+sample_for_people = printed true None refl

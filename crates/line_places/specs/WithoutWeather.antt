@@ -1,9 +1,8 @@
 -- The program without pressure and temperature, defined by itself; and that where none are given it prints the same, to
 -- the byte.
-use Rattle.std.specs.Prelude.{◌≡◌, refl, Bool, true, false, ◌&&◌, ◌||◌, List, [], ◌∷◌, ◌++◌, ℕ, zero, suc, eqb}
+use Rattle.std.specs.Prelude.{◌≡◌, refl, Bool, true, false, ◌&&◌, ◌||◌, List, [], ◌∷◌, ◌++◌, ℕ, zero, suc, eqb, Result, Ok, Err, Some, None}
 use Rattle.std.proofs.Common.{sym, ap, ◌∙◌, eqb-true}
 use Rattle.rules.specs.declared.Night.{Night}
-use Rattle.rules.specs.declared.ListedStar.{ListedStar}
 use Rattle.rules.specs.Refusals.{number}
 use Rattle.rules.specs.Bytes.{same_bytes}
 use Rattle.rules.specs.Times.{refused_line, ended}
@@ -12,19 +11,20 @@ use Rattle.rules.specs.NightList.{worked}
 use Rattle.laws.specs.Ranges.{true_not_false}
 use Rattle.line_asked.specs.Asking.{asked_of}
 use Rattle.line_entries.specs.EntryLine.{entry_line}
-use Rattle.line_places.specs.declared.air.Air.{Air}
-use Rattle.line_places.specs.declared.command.Command.{Command}
 use Rattle.line_places.specs.Air.{air_accepted}
-use Rattle.line_places.specs.Answers.{Begun, begun_of, in_air, begun, line_in, star_line, answer_line}
-use Rattle.line_places.specs.Program.{header, header_in, entry_lines, answer_lines, first_line, places}
+use Rattle.line_places.specs.Answers.{Begun, begun_of, in_air, line_in, star_line, answer_line}
+use Rattle.line_places.specs.Program.{header, header_in, entry_lines, answer_lines, first_line}
 use Rattle.line_places.specs.Program.{people_word, command_of}
 use Rattle.line_places.specs.Commands.{command_of_2, command_of_3}
+use Rattle.rules.specs.declared.Refusal.{Refusal}
+use Rattle.rules.specs.declared.Star.{Star}
+use Rattle.line_places.specs.Air.{command_for}
 
 -- ---- what it prints
 
-unfoldable pub star_line_without : Bool → Night → ℕ → ListedStar → List ℕ
-star_line_without people n index (ListedStar.Of s) = entry_line people index (worked n (fresh_entry s))
-star_line_without people n index (ListedStar.Refused r) = refused_line (number r)
+unfoldable pub star_line_without : Bool → Night → ℕ → Result Star Refusal → List ℕ
+star_line_without people n index (Ok s) = entry_line people index (worked n (fresh_entry s))
+star_line_without people n index (Err r) = refused_line (number r)
 
 unfoldable pub entry_lines_without : Bool → List ℕ → Night → ℕ → List (List ℕ)
 entry_lines_without people file n zero = []
@@ -42,27 +42,27 @@ places_without people file input =
 
 -- ---- the same bytes
 
-pub begun_same : (b : Begun) → in_air Air.Unknown b ≡ b
+pub begun_same : (b : Begun) → in_air None b ≡ b
 unfolding in_air air_accepted
 begun_same (Begun.For count n) = refl
 begun_same (Begun.Refused r) = refl
 begun_same Begun.Other = refl
 
-star_line_same : (people : Bool) (n : Night) (index : ℕ) (s : ListedStar)
-    → star_line people Air.Unknown n index s ≡ star_line_without people n index s
+star_line_same : (people : Bool) (n : Night) (index : ℕ) (s : Result Star Refusal)
+    → star_line people None n index s ≡ star_line_without people n index s
 unfolding star_line star_line_without line_in
-star_line_same people n index (ListedStar.Of s) = refl
-star_line_same people n index (ListedStar.Refused r) = refl
+star_line_same people n index (Ok s) = refl
+star_line_same people n index (Err r) = refl
 
 entry_lines_same : (people : Bool) (file : List ℕ) (n : Night) (count : ℕ)
-    → entry_lines people Air.Unknown file n count ≡ entry_lines_without people file n count
+    → entry_lines people None file n count ≡ entry_lines_without people file n count
 unfolding entry_lines entry_lines_without answer_line
 entry_lines_same people file n zero = refl
 entry_lines_same people file n (suc count) =
     rw (entry_lines_same people file n count, star_line_same people n count (list_star file count))
 
 pub answer_lines_same : (people : Bool) (file : List ℕ) (b : Begun)
-    → answer_lines people Air.Unknown file b ≡ answer_lines_without people file b
+    → answer_lines people None file b ≡ answer_lines_without people file b
 unfolding answer_lines answer_lines_without header_in
 answer_lines_same people file (Begun.For count n) = ap (λ lines. header ∷ lines) (entry_lines_same people file n count)
 answer_lines_same people file (Begun.Refused r) = refl
@@ -76,16 +76,16 @@ is_command_without words third = eqb words 2 || (eqb words 3 && same_bytes third
 
 -- each is one with the option too, and says nothing of the air
 pub command_without_weather : (words : ℕ) (third fourth fifth : List ℕ) → is_command_without words third ≡ true
-    → command_of words third fourth fifth ≡ Command.For (eqb words 3) Air.Unknown
+    → command_of words third fourth fifth ≡ Some (command_for (eqb words 3) None)
 unfolding is_command_without
 command_without_weather words third fourth fifth h =
     go (eqb words 2) (eqb words 3) (same_bytes third people_word) refl refl refl h
   where
-    said : (k : ℕ) → words ≡ k → Command.For (eqb k 3) Air.Unknown ≡ Command.For (eqb words 3) Air.Unknown
-    said k e = ap (λ j. Command.For (eqb j 3) Air.Unknown) (sym e)
+    said : (k : ℕ) → words ≡ k → Some (command_for (eqb k 3) None) ≡ Some (command_for (eqb words 3) None)
+    said k e = ap (λ j. Some (command_for (eqb j 3) None)) (sym e)
 
     go : (a b s : Bool) → eqb words 2 ≡ a → eqb words 3 ≡ b → same_bytes third people_word ≡ s → a || (b && s) ≡ true
-        → command_of words third fourth fifth ≡ Command.For (eqb words 3) Air.Unknown
+        → command_of words third fourth fifth ≡ Some (command_for (eqb words 3) None)
     go true b s e f g k =
         let two = eqb-true words 2 e in
         command_of_2 words third fourth fifth two ∙ said 2 two

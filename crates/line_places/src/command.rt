@@ -3,54 +3,54 @@
 ghost use Rattle.std.specs.Prelude.{◌≡◌};
 ghost use Rattle.line_places.specs.Program as rule;
 
-use crate::air::Air;
-use numerals::tenths::{of_tenths, tenths_of};
+use line_entries::air::Air;
+use numerals::tenths;
 
-// A command: whether angles are printed for people, and the air; or one of another form.
+// What a command asks for: angles for people or in µas, and the observed altitude in an air. The
+// air is as it was given, since it is refused after all others (`air::accepted`). `people` is a
+// flag, since the definitions have it so.
 #[derive(Clone, Copy)]
-pub enum Command {
-    For(bool, Air),
-    Other,
+pub struct Command {
+    pub people: bool,
+    pub air: Option<Air>,
 }
 
 // A command that ends in pressure and temperature.
-fn with_air(people: bool, pressure: &[u8], temperature: &[u8]) -> Command
+fn with_air(people: bool, pressure: &[u8], temperature: &[u8]) -> Option<Command>
     ensures { result
         ≡ rule.with_air people pressure.now temperature.now }
 {
-    if !of_tenths(pressure) {
-        return Command::Other;
-    }
-    if !of_tenths(temperature) {
-        return Command::Other;
-    }
-    Command::For(people, Air::Of(tenths_of(pressure), tenths_of(temperature)))
+    let pressure = tenths::parse(pressure)?;
+    let temperature = tenths::parse(temperature)?;
+    let air = Some(Air {
+        pressure,
+        temperature,
+    });
+    Some(Command { people, air })
 }
 
 // The command `places FILE [sexagesimal] [PRESSURE TEMPERATURE]`.
 //
 // Given: how many words it has, the program's name among them; its third, fourth and fifth word,
 // or no bytes.
-// Returned: what it asks for; or that it is of another form.
+// Returned: what it asks for; or none, where it is of another form.
 // Rule: specs/Program.antt.
-pub fn command_of(words: usize, third: &[u8], fourth: &[u8], fifth: &[u8]) -> Command
+//
+// The count of words stands beside three of them: docs/PROMISES.md and `promises/ProgramPlaces`
+// name it so, and no more of the words is kept.
+pub fn command_of(words: usize, third: &[u8], fourth: &[u8], fifth: &[u8]) -> Option<Command>
     ensures { result ≡ rule.command_of words third.now fourth.now
         fifth.now }
 {
-    if words == 2 {
-        return Command::For(false, Air::Unknown);
+    let people = third == b"sexagesimal".as_slice();
+    match words {
+        2 => Some(Command {
+            people: false,
+            air: None,
+        }),
+        3 if people => Some(Command { people, air: None }),
+        4 => with_air(false, third, fourth),
+        5 if people => with_air(people, fourth, fifth),
+        _ => None,
     }
-    if words == 4 {
-        return with_air(false, third, fourth);
-    }
-    if !check::same(third, b"sexagesimal") {
-        return Command::Other;
-    }
-    if words == 3 {
-        return Command::For(true, Air::Unknown);
-    }
-    if words == 5 {
-        return with_air(true, fourth, fifth);
-    }
-    Command::Other
 }

@@ -3,23 +3,21 @@
 // Lines of the program `places`, our own and not document 01's: a line read, and all that is
 // printed for it.
 
-ghost use Rattle.std.specs.Prelude.{◌≡◌, ◌≤◌, length};
-ghost use Rattle.std.proofs.lemmas.List.Edits.{sets};
+ghost use Rattle.std.specs.Prelude.{◌≡◌, ◌≤◌, [], length, Ok, ℕ};
 ghost use Rattle.rules.specs.ListFile.{most_records};
-ghost use Rattle.rules.specs.Times.{overlaid, ended};
+ghost use Rattle.rules.specs.Times.{ended};
 ghost use Rattle.line_places.specs.Program.{places};
-ghost use Rattle.line_places.specs.Room.{answer_room, Printable, WorkedPrintable};
-ghost use Rattle.line_places.specs.Listed.{accepted_lines, worked_lines, asked_lines};
+ghost use Rattle.line_places.specs.Listed.{counted, accepted_lines, read_lines};
 
-use crate::accepted::is_accepted;
-use crate::air::Air;
+use crate::air::accepted;
+use crate::command::Command;
 use crate::printing::{put_entries, put_refusal};
+use arrayvec::ArrayVec;
 use entries_listing::{Listing, read, work};
 use line_asked::{Asked, asked_of, length_before};
-use rules::{Listed, Refusal};
+use rules::{Entry, Refusal};
 use units::{HEAD_BYTES, MOST_RECORDS, RECORD_BYTES};
 
-mod accepted;
 pub mod air;
 pub mod command;
 mod printing;
@@ -32,82 +30,72 @@ pub const LINE_KEPT: usize = 65;
 
 pub const ANSWER_ROOM: usize = 9472;
 
-// All that is printed of the first `count` entries, which were worked; or that the air is refused.
-fn print_accepted(worked: Listing, count: usize, people: bool, air: Air, out: &mut [u8]) -> usize
-    requires { Printable people air worked.entries count (length out.old) }
-    ensures value { result ≡ length (ended (accepted_lines people air worked.entries count)) }
-    ensures out_after { out.new
-        ≡ sets out.old 0 (ended (accepted_lines people air worked.entries count)) }
+// What is printed, all of it.
+pub type Answer = ArrayVec<u8, ANSWER_ROOM>;
+
+// All that is printed of entries, which were worked; or that the air is refused. That the room is
+// empty stays a clause, here and below: `print_answer` clears it once for all of them. So does how
+// many entries there are: a slice has no length in its type.
+fn print_accepted(entries: &[Entry], command: Command, out: &mut Answer)
+    requires few { length entries.now ≤ most_records }
+    requires room { out.old.items ≡ [] }
+    ensures { out.new.items
+        ≡ ended (accepted_lines command.people command.air entries.now (length entries.now)) }
 {
-    if !is_accepted(air) {
-        return put_refusal(refusals::number(Refusal::Reading), out);
+    match accepted(command) {
+        Some(command) => put_entries(entries, command, out),
+        None => put_refusal(refusals::number(Refusal::Reading), out),
     }
-    put_entries(worked, count, people, air, out)
 }
 
-// All that is printed of a list: of the first `count` entries, or that the night is refused.
-fn print_worked(worked: Listing, count: usize, people: bool, air: Air, out: &mut [u8]) -> usize
-    requires { WorkedPrintable people air worked count (length out.old) }
-    ensures value { result ≡ length (ended (worked_lines people air count worked)) }
-    ensures out_after { out.new
-        ≡ sets out.old 0 (ended (worked_lines people air count worked)) }
+// All that is printed of a list that was worked: of its entries, or that the night is refused.
+fn print_worked(
+    answer: Result<usize, Refusal>,
+    entries: &[Entry],
+    command: Command,
+    out: &mut Answer,
+)
+    requires few { length entries.now ≤ most_records }
+    requires room { out.old.items ≡ [] }
+    ensures { out.new.items ≡ ended (counted answer (λ marked.
+        accepted_lines command.people command.air entries.now (length entries.now))) }
 {
-    let answer = worked.answer;
     match answer {
-        Listed::Count(_) => print_accepted(worked, count, people, air, out),
-        Listed::Refused(r) => put_refusal(refusals::number(r), out),
+        Ok(_) => print_accepted(entries, command, out),
+        Err(r) => put_refusal(refusals::number(r), out),
     }
 }
 
-// All that is printed for a list of `count` entries, by what the line asks for.
-fn print_asked(
-    listing: Listing,
-    count: usize,
-    asked: Asked,
-    people: bool,
-    air: Air,
-    out: &mut [u8],
-) -> usize
-    requires { (count ≤ most_records) × (answer_room ≤ length out.old) }
-    ensures value { result ≡ length (ended (asked_lines people air asked listing.entries count)) }
-    ensures out_after { out.new ≡ sets out.old 0
-        (ended (asked_lines people air asked listing.entries count)) }
+// All that is printed for a list that was read, by what the line asks for. `work` takes the count
+// beside the list, as `listing_worked` does: of a list that was worked the answer is another
+// number.
+fn print_asked(listing: Listing, asked: Option<Asked>, command: Command, out: &mut Answer)
+    requires few { (count : ℕ) → listing.answer ≡ Ok count → count ≤ most_records }
+    requires room { out.old.items ≡ [] }
+    ensures { out.new.items ≡ ended (read_lines command.people command.air asked listing) }
 {
-    match asked {
-        Asked::For(moment, site) => {
-            print_worked(work(moment, site, count, listing), count, people, air, out)
+    match (listing.answer, asked) {
+        (Err(r), _) => put_refusal(refusals::number(r), out),
+        (Ok(_), None) => put_refusal(0, out),
+        (Ok(count), Some(asked)) => {
+            let worked = work(asked.moment, asked.site, count, listing);
+            print_worked(worked.answer, &worked.entries[..count], command, out)
         }
-        Asked::Other => put_refusal(0, out),
     }
 }
 
 // All that the program prints.
 //
 // Given: file and input, any bytes: the input is what standard input holds, and its first line
-// alone counts; whether angles are printed for people; any air; room for a header and 64 lines.
-// Returned: how many bytes are printed, which stand at the front of the room; the rest of the room
-// stays.
+// alone counts; any command; a room for a header and 64 lines, and what stands there goes.
+// Returned: nothing. The room then has all that is printed, and no more.
 // Rule: specs/Program.antt.
-pub fn print_answer(
-    file: &[u8],
-    input: &[u8],
-    people: bool,
-    air: Air,
-    out: &mut [u8; ANSWER_ROOM],
-) -> usize
-    ensures answer { result
-        ≡ length (places people air file.now input.now) }
-    ensures kept { out.new
-        ≡ overlaid (places people air file.now input.now)
-        out.old }
+pub fn print_answer(file: &[u8], input: &[u8], command: Command, out: &mut Answer)
+    ensures { out.new.items ≡ places command.people command.air file.now input.now }
 {
+    out.clear();
     let n = length_before(b'\n', input);
     let line = &input[..n];
     let asked = asked_of(line);
-    let listing = read(file);
-    let answer = listing.answer;
-    match answer {
-        Listed::Count(count) => print_asked(listing, count, asked, people, air, out),
-        Listed::Refused(r) => put_refusal(refusals::number(r), out),
-    }
+    print_asked(read(file), asked, command, out)
 }

@@ -1,103 +1,85 @@
-// The lines of an answer, each with its end, put one after another into lent memory.
+// The lines of an answer, each with its end, put one after another. Command and answer are passed
+// side by side: a struct that lends the answer is no plainer, since each line is put by itself.
 
-ghost use Rattle.std.specs.Prelude.{◌≡◌, true, ◌∷◌, [], ◌≤◌, ◌+◌, length};
-ghost use Rattle.std.proofs.lemmas.List.Edits.{sets};
-ghost use Rattle.rules.specs.Times.{overlaid, ended};
+ghost use Rattle.std.specs.Prelude.{◌≡◌, ◌∷◌, [], ◌≤◌, ◌+◌, ◌++◌, length};
+ghost use Rattle.arrayvec.specs.ArrayVec.{array_vec_len};
+ghost use Rattle.rules.specs.ListFile.{most_records};
+ghost use Rattle.rules.specs.Times.{ended};
 ghost use Rattle.decimals.specs.Refused.{refused_to};
-ghost use Rattle.line_places.specs.Air.{air_accepted};
 ghost use Rattle.line_places.specs.Answers.{line_in};
 ghost use Rattle.line_places.specs.Program.{header_in};
 ghost use Rattle.line_places.specs.Listed.{listed_line, lines_to};
-ghost use Rattle.line_places.specs.Room.{LineFits, Printable};
+ghost use Rattle.line_places.specs.Room.{answer_room};
 
-use crate::air::Air;
-use decimals::put_refused;
-use entries_listing::Listing;
+use crate::Answer;
+use crate::air::AcceptedCommand;
+use crate::command::Command;
+use decimals::{put_refused, put_text};
+use line_entries::air::AcceptedAir;
 use line_entries::observed::put_observed;
 use line_entries::put_entry;
 use rules::Entry;
 
-// `refused ` and the number, with its end.
-pub fn put_refusal(number: i64, out: &mut [u8]) -> usize
-    requires { 64 ≤ length out.old }
-    ensures value { result ≡ length (ended (refused_to number ∷ [])) }
-    ensures out_after { out.new ≡ sets out.old 0 (ended (refused_to number ∷ [])) }
+// `refused ` and the number, with its end. The number is one, as `decimals` puts it.
+#[tactic(auto, unfolding(rules::specs::Times::ended))]
+pub fn put_refusal(number: i64, out: &mut Answer)
+    requires { array_vec_len out.old + 29 ≤ answer_room }
+    ensures { out.new.items ≡ out.old.items ++ ended (refused_to number ∷ []) }
 {
-    let end = put_refused(number, out);
-    out[end] = b'\n';
-    end + 1
-}
-
-// Puts bytes at the front of the room, and answers how many they are.
-fn copy(text: &[u8], out: &mut [u8]) -> usize
-    requires { length text.now ≤ length out.old }
-    ensures value { result ≡ length text.now }
-    ensures out_after { out.new ≡ overlaid text.now out.old }
-{
-    let n = text.len();
-    out[..n].copy_from_slice(text);
-    n
+    put_refused(number, out);
+    put_text(b"\n", out);
 }
 
 // The header with its end.
-fn put_header(air: Air, out: &mut [u8]) -> usize
-    requires { 64 ≤ length out.old }
-    ensures value { result ≡ length (ended (header_in air ∷ [])) }
-    ensures out_after { out.new ≡ sets out.old 0 (ended (header_in air ∷ [])) }
+#[tactic(auto, unfolding(crate::specs::Program::header_in, rules::specs::Times::ended))]
+fn put_header(command: AcceptedCommand, out: &mut Answer)
+    requires { array_vec_len out.old + 29 ≤ answer_room }
+    ensures { out.new.items ≡ out.old.items ++ ended (header_in command.air ∷ []) }
 {
-    match air {
-        Air::Unknown => copy(b"entry mark ra dec az alt\n", out),
-        Air::Of(_, _) => copy(b"entry mark ra dec az alt obs\n", out),
+    match command.command.air {
+        None => put_text(b"entry mark ra dec az alt\n", out),
+        Some(_) => put_text(b"entry mark ra dec az alt obs\n", out),
     }
 }
 
-// The columns of an entry, at a place of the room.
-fn put_columns(
-    entry: Entry,
-    index: usize,
-    people: bool,
-    air: Air,
-    at: usize,
-    out: &mut [u8],
-) -> usize
-    requires { LineFits people air index entry at (length out.old) }
-    ensures value { result ≡ at + length (line_in people air index entry) }
-    ensures out_after { out.new
-        ≡ sets out.old at (line_in people air index entry) }
+// The columns of an entry. Index and entry stay two: the index is not the entry's own.
+#[tactic(auto, unfolding(crate::specs::Answers::line_in))]
+fn put_columns(index: usize, entry: Entry, command: AcceptedCommand, out: &mut Answer)
+    requires few { index ≤ most_records }
+    requires room { array_vec_len out.old + 146 ≤ answer_room }
+    ensures items { out.new.items
+        ≡ out.old.items ++ line_in command.people command.air index entry }
+    ensures short { array_vec_len out.new ≤ array_vec_len out.old + 146 }
 {
-    let end = at + put_entry(index, entry, people, &mut out[at..]);
-    match air {
-        Air::Unknown => end,
-        Air::Of(p, t) => put_observed(p, t, entry, people, end, out),
+    let Command { people, air } = command.command;
+    put_entry(index, entry, people, out);
+    if let Some(air) = air {
+        put_observed(AcceptedAir { air }, entry, people, out);
     }
 }
 
-// The line of an entry with its end, at a place of the room.
-fn put_line(entry: Entry, index: usize, people: bool, air: Air, at: usize, out: &mut [u8]) -> usize
-    requires { LineFits people air index entry at (length out.old) }
-    ensures value { result ≡ at + length (ended (line_in people air index entry ∷ [])) }
-    ensures out_after { out.new
-        ≡ sets out.old at (ended (line_in people air index entry ∷ [])) }
+// The line of an entry with its end.
+#[tactic(auto, unfolding(rules::specs::Times::ended))]
+fn put_line(index: usize, entry: Entry, command: AcceptedCommand, out: &mut Answer)
+    requires few { index ≤ most_records }
+    requires room { array_vec_len out.old + 147 ≤ answer_room }
+    ensures items { out.new.items
+        ≡ out.old.items ++ ended (line_in command.people command.air index entry ∷ []) }
+    ensures short { array_vec_len out.new ≤ array_vec_len out.old + 147 }
 {
-    let last = put_columns(entry, index, people, air, at, out);
-    out[last] = b'\n';
-    last + 1
+    put_columns(index, entry, command, out);
+    out.push(b'\n');
 }
 
-// The header, and the line of each of the first `count` entries.
-pub fn put_entries(listing: Listing, count: usize, people: bool, air: Air, out: &mut [u8]) -> usize
-    requires { (air_accepted air ≡ true)
-        × Printable people air listing.entries count (length out.old) }
-    ensures value { result ≡ length
-        (ended (header_in air ∷ lines_to (listed_line people air listing.entries) count)) }
-    ensures out_after { out.new ≡ sets out.old 0
-        (ended (header_in air ∷ lines_to (listed_line people air listing.entries) count)) }
+// The header, and the line of each entry.
+pub fn put_entries(entries: &[Entry], command: AcceptedCommand, out: &mut Answer)
+    requires few { length entries.now ≤ most_records }
+    requires room { out.old.items ≡ [] }
+    ensures { out.new.items ≡ ended (header_in command.air
+        ∷ lines_to (listed_line command.people command.air entries.now) (length entries.now)) }
 {
-    let mut at = put_header(air, out);
-    let mut index: usize = 0;
-    while index < count {
-        at = put_line(listing.entries[index], index, people, air, at, out);
-        index += 1;
+    put_header(command, out);
+    for (index, entry) in entries.iter().enumerate() {
+        put_line(index, *entry, command, out);
     }
-    at
 }

@@ -1,129 +1,88 @@
-// The programs `times` and `dates`: lines are read to the end of standard input, answered and handed
-// out.
+// The programs `times` and `dates`: lines are read to the end of standard input, answered and
+// handed out.
 //
 // What is printed for what is read is proved of `line_reads`. An input that cannot be read and an
 // output that cannot be written each get a line on standard error, and end the program.
 
 #![tactic(auto)]
 
-ghost use Rattle.std.specs.Prelude.{◌≡◌, true, ◌≤◌, take};
+ghost use Rattle.std.specs.Prelude.{IfOk, IfSome};
 ghost use Rattle.line_program.specs.Turns.{Handed, Turned};
 
 use input::reason::Reason;
-use line_reads::{Program, Start, answer_read, begin};
-use std::io;
+use line_reads::{Answers, Program, Start, answer_read, begin};
 use std::io::Read;
+use std::{fmt, io};
 
-// What a turn leaves: the start of the line that its read broke off in, and whether to go on.
+// Which stream failed, and why.
 #[derive(Clone, Copy)]
-struct Turn {
-    start: Start,
-    more: bool,
+enum Failure {
+    Input(io::Error),
+    Output(io::Error),
 }
 
-// Says why standard input could not be read. What cannot be said is lost.
-fn fail_input<R: Eprint>(rt: &R, program: Program, error: io::Error) {
-    let why = Reason(error);
-    let _ = match program {
-        Program::Times => eprintln!(rt; "times: standard input: {why}"),
-        Program::Dates => eprintln!(rt; "dates: standard input: {why}"),
-    };
-}
-
-// Says why standard output could not be written. What cannot be said is lost.
-fn fail_output<R: Eprint>(rt: &R, program: Program, error: io::Error) {
-    let why = Reason(error);
-    let _ = match program {
-        Program::Times => eprintln!(rt; "times: standard output: {why}"),
-        Program::Dates => eprintln!(rt; "dates: standard output: {why}"),
-    };
-}
-
-// Why standard input cannot be read, if so. To read no byte takes none and does not wait.
-fn unreadable<I: Read>(input: &mut I) -> Option<io::Error> {
-    let mut byte = [0u8; 1];
-    input.read(&mut byte[..0]).err()
-}
-
-// Hands the front of the room to standard output, and answers whether it was taken.
-fn hand_out<R: Print + Eprint>(rt: &R, program: Program, out: &[u8; 65536], written: usize) -> bool
-    requires written_bound { written ≤ 65536 }
-    requires handed { Handed program (take written out.now) }
-{
-    let all: &[u8] = out;
-    match rt.write_all(&all[..written]) {
-        Ok(()) => true,
-        Err(error) => {
-            fail_output(rt, program, error);
-            false
+impl fmt::Display for Failure {
+    fn fmt<W: fmt::Write>(&self, f: &mut fmt::Formatter<W>) -> fmt::Result {
+        match *self {
+            Failure::Input(error) => write!(f, "standard input: {}", Reason(error)),
+            Failure::Output(error) => write!(f, "standard output: {}", Reason(error)),
         }
     }
 }
 
-// One read, and its answers. A read of nothing is the end of the input.
-fn read_some<R: Print + Eprint, I: Read>(
+// Hands what stands in the room to standard output. `rt` and `program` go through each function: a
+// struct of both would be made once and taken apart in each.
+fn hand_out<R: Print>(rt: &R, program: Program, out: &Answers) -> Result<(), Failure>
+    requires { Handed program out.now.items }
+{
+    rt.write_all(out).map_err(Failure::Output)
+}
+
+// One read, its answers, and the start of the next turn; none after the last. A read of nothing is
+// the end of the input.
+fn read_some<R: Print, I: Read>(
     rt: &R,
     input: &mut I,
     program: Program,
     start: Start,
-    out: &mut [u8; 65536],
-) -> Turn
-    ensures { result.more ≡ true
-        → Turned program start out.old result.start out.new }
+    out: &mut Answers,
+) -> Result<Option<Start>, Failure>
+    ensures { IfOk result (λ next. IfSome next (λ s. Turned program start s out.new.items)) }
 {
     let mut bytes = [0u8; 1024];
-    let count = match input.read(&mut bytes) {
-        Ok(count) => count,
-        Err(error) => {
-            fail_input(rt, program, error);
-            return Turn { start, more: false };
-        }
-    };
-    let after = answer_read(program, start, &bytes, count, out);
-    let next = after.start;
-    if !hand_out(rt, program, out, after.written) {
-        return Turn {
-            start: next,
-            more: false,
-        };
+    let count = input.read(&mut bytes).map_err(Failure::Input)?;
+    let next = answer_read(program, start, &bytes[..count], out);
+    hand_out(rt, program, out)?;
+    if count == 0 {
+        return Ok(None);
     }
-    Turn {
-        start: next,
-        more: 0 < count,
-    }
+    Ok(Some(next))
 }
 
-// Reads, answers and hands out to the end of the input. No input has more reads than are counted.
-fn answer_all<R: Print + Eprint, I: Read>(
-    rt: &R,
-    input: &mut I,
-    program: Program,
-    begun: Start,
-    out: &mut [u8; 65536],
-) {
-    let mut start = begun;
-    let mut turns = i64::MAX;
-    while turns > 0 {
-        let turn = read_some(rt, input, program, start, out);
-        start = turn.start;
-        if !turn.more {
-            break;
+// Reads, answers and hands out to the end of the input. No input has more reads than are counted: a
+// `while let` would need a measure, and nothing that a contract can name grows less with a read.
+fn answer_all<R: Print, I: Read>(rt: &R, input: &mut I, program: Program) -> Result<(), Failure> {
+    // to read no byte takes none and does not wait
+    let mut byte = [0u8; 1];
+    input.read(&mut byte[..0]).map_err(Failure::Input)?;
+    let mut out = Answers::new();
+    let mut start = begin(program, &mut out);
+    hand_out(rt, program, &out)?;
+    for _ in 0..i64::MAX {
+        match read_some(rt, input, program, start, &mut out)? {
+            Some(next) => start = next,
+            None => break,
         }
-        turns -= 1;
     }
+    Ok(())
 }
 
 // The whole program: standard input to its end, and on standard output what the program prints for
-// it, or a message on standard error.
+// it, or a message on standard error. What cannot be said is lost.
 pub fn run<R: Input + Print + Eprint>(rt: &R, program: Program) {
     let mut input = rt.reader();
-    if let Some(error) = unreadable(&mut input) {
-        fail_input(rt, program, error);
-        return;
-    }
-    let mut out = [0u8; 65536];
-    let begun = begin(program, &mut out);
-    if hand_out(rt, program, &out, begun.written) {
-        answer_all(rt, &mut input, program, begun.start, &mut out);
+    if let Err(failure) = answer_all(rt, &mut input, program) {
+        let name = program.name();
+        let _ = eprintln!(rt; "{name}: {failure}");
     }
 }

@@ -1,12 +1,12 @@
 -- Wherever an input is cut into reads, their answers after the header are all that the program prints for it.
-use Rattle.std.specs.Prelude.{◌≡◌, refl, Bool, true, false, ℕ, eqb, ltb}
+use Rattle.std.specs.Prelude.{◌≡◌, refl, Bool, true, false, ℕ, eqb, ltb, length}
 use Rattle.std.proofs.Common.{sym, ◌∙◌, arith, eqb-true, lt-ltb}
 use Rattle.std.proofs.Math.Path.{ap}
 use mathlib.Core.List.{List, [], ◌∷◌, ◌++◌, map, flatten, append_assoc, append-nil}
 use Rattle.rules.specs.Times.{newline, lines_of, ended, times}
 use Rattle.line_dates.specs.DateLines.{dates}
 use Rattle.line_reads.specs.declared.Program.{Program}
-use Rattle.line_reads.specs.declared.Start.{Start}
+use Rattle.line_reads.specs.declared.starts.Start.{Start}
 use Rattle.line_reads.specs.Reads.{
   answered_by,
   header_line,
@@ -43,7 +43,7 @@ last_answer_lem : (p : Program) (s : Start) (line : List ℕ) → Unended line �
 unfolding last_answer ended lines_of
 last_answer_lem p s [] u k = rw k.count
 last_answer_lem p s (b ∷ line) u k =
-    let t : ltb 0 s.len ≡ true = lt-ltb 0 s.len (omega (arith, k.count)) in
+    let t : ltb 0 (length s) ≡ true = lt-ltb 0 (length s) (omega (arith, k.count)) in
     rw (t, lines_last b line u) (keeps_answer p s (b ∷ line) k)
 
 -- from a line that has begun to the end of the input

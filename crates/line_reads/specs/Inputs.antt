@@ -1,7 +1,7 @@
 -- An input, cut into reads. Definitions only.
 use Rattle.std.specs.Prelude.{◌≡◌, List, [], ◌∷◌, ◌++◌, ℕ}
 use Rattle.line_reads.specs.declared.Program.{Program}
-use Rattle.line_reads.specs.declared.Start.{Start}
+use Rattle.line_reads.specs.declared.starts.Start.{Start}
 use Rattle.line_reads.specs.Reads.{answers_of, start_of_next}
 
 -- none is empty but the last, which is the end of the input

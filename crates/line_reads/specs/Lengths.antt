@@ -6,8 +6,8 @@ use Rattle.rules.specs.Times.{newline, ended}
 use Rattle.laws.specs.Times.{printed_le}
 use Rattle.line_dates.specs.DateLaws.{date_line_le}
 use Rattle.line_reads.specs.declared.Program.{Program}
-use Rattle.line_reads.specs.declared.Start.{Start}
-use Rattle.line_reads.specs.Reads.{held, answered, start_after, answer_at, answers_to, last_answer, answers_of}
+use Rattle.line_reads.specs.declared.starts.Start.{Start}
+use Rattle.line_reads.specs.Reads.{answered, start_after, answer_at, answers_to, last_answer, answers_of}
 use Rattle.line_reads.specs.Reads.{answered_by, header_line}
 
 -- without its end
@@ -19,7 +19,7 @@ answer_le Program.Dates line = omega (arith, date_line_le line)
 -- with its end
 pub answered_le : (p : Program) (s : Start) → length (answered p s) ≤ 63
 unfolding answered
-answered_le p s = simp length-append (omega (arith, answer_le p (held s)))
+answered_le p s = simp length-append (omega (arith, answer_le p s))
 
 pub answer_at_le : (p : Program) (s : Start) (b : ℕ) → length (answer_at p s b) ≤ 63
 unfolding answer_at
@@ -31,7 +31,7 @@ answer_at_le p s b = go (eqb b newline)
 
 pub last_le : (p : Program) (s : Start) → length (last_answer p s) ≤ 63
 unfolding last_answer
-last_le p s = go (ltb 0 s.len)
+last_le p s = go (ltb 0 (length s))
   where
     go : (t : Bool) → length (cond t (answered p s) []) ≤ 63
     go true = answered_le p s

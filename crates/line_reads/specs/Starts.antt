@@ -1,10 +1,10 @@
 -- The start of a line: it keeps the first 32 bytes, which tell the line's answer.
-use Rattle.std.specs.Prelude.{◌≡◌, Bool, List, [], ◌∷◌, ◌++◌, ℕ, ◌+◌, ◌≤◌, ◌<◌, min, set}
+use Rattle.std.specs.Prelude.{◌≡◌, Bool, List, [], ◌∷◌, ◌++◌, ℕ, ◌+◌, ◌≤◌, min}
 use Rattle.std.proofs.Math.Path.{refl, sym, ap}
-use Rattle.std.proofs.Common.{◌∙◌, add-one, arith, lit≤, length-append, take-suc-set}
+use Rattle.std.proofs.Common.{◌∙◌, arith, lit≤, length-append}
 use Rattle.std.proofs.Math.Bool.{true, false}
 use Rattle.std.proofs.Math.Dec.{ltb}
-use Rattle.std.proofs.Math.ListN.{length, take, length-set}
+use Rattle.std.proofs.Math.ListN.{length, take}
 use Rattle.std.proofs.Math.Seq.{take_all}
 use Rattle.std.proofs.lemmas.List.{take-append-le}
 use borrow.Author.Tests.{ltb-true, ltb-false}
@@ -12,17 +12,16 @@ use Rattle.rules.specs.Times.{printed, newline}
 use Rattle.laws.specs.Lines.{line_cut}
 use Rattle.line_dates.specs.DateLaws.{date_cut}
 use Rattle.line_reads.specs.declared.Program.{Program}
-use Rattle.line_reads.specs.declared.Start.{Start}
-use Rattle.line_reads.specs.Reads.{answered_by, held, none, with_byte, answered}
+use Rattle.line_reads.specs.declared.starts.Start.{Start}
+use Rattle.line_reads.specs.Reads.{answered_by, none, with_byte, answered}
 
 -- s keeps the line so far: all of it, or its first 32 bytes
 pub record Keeps (s : Start) (line : List ℕ) : Type 0 where
-  pub size : length s.bytes ≡ 32
-  pub count : s.len ≡ min 32 (length line)
-  pub front : held s ≡ take 32 line
+  pub count : length s ≡ min 32 (length line)
+  pub front : s ≡ take 32 line
 
 pub keeps_none : Keeps none []
-keeps_none = record { size = refl; count = refl; front = refl }
+keeps_none = record { count = refl; front = refl }
 
 module _ (s : Start) (line : List ℕ) (k : Keeps s line) (b : ℕ) where
   longer : length (line ++ b ∷ []) ≡ length line + 1
@@ -30,27 +29,22 @@ module _ (s : Start) (line : List ℕ) (k : Keeps s line) (b : ℕ) where
 
   pub keeps_more : Keeps (with_byte s b) (line ++ b ∷ [])
   unfolding with_byte
-  keeps_more = go (ltb s.len 32) refl
+  keeps_more = go (ltb (length s) 32) refl
     where
-      go : (t : Bool) → ltb s.len 32 ≡ t → Keeps (with_byte s b) (line ++ b ∷ [])
+      go : (t : Bool) → ltb (length s) 32 ≡ t → Keeps (with_byte s b) (line ++ b ∷ [])
       go true e =
-          let l = ltb-true s.len 32 e in
-          let h : length line < 32 = omega (arith, k.count) in
-          let n : s.len ≡ length line = omega (arith, k.count) in
-          let f : take (s.len + 1) (set s.bytes s.len b) ≡ take 32 (line ++ b ∷ []) =
-          rw (add-one s.len) (take-suc-set s.bytes s.len b (omega (arith, k.size))
-          ∙ ap (λ l. l ++ b ∷ []) (k.front ∙ take_all 32 line (omega arith))
-          ∙ sym (take_all 32 (line ++ b ∷ []) (omega (arith, longer)))) in
+          let l = ltb-true (length s) 32 e in
+          let f : s ++ b ∷ [] ≡ take 32 (line ++ b ∷ []) =
+          ap (λ l. l ++ b ∷ []) (k.front ∙ take_all 32 line (omega (arith, k.count)))
+          ∙ sym (take_all 32 (line ++ b ∷ []) (omega (arith, longer, k.count))) in
           rw e record {
-            size = length-set s.bytes s.len b ∙ k.size;
-            count = omega (arith, longer);
+            count = length-append s (b ∷ []) ∙ (omega (arith, longer, k.count));
             front = f;
           }
       go false e =
-          let l = ltb-false s.len 32 e in
+          let l = ltb-false (length s) 32 e in
           let h : 32 ≤ length line = omega (arith, k.count) in
           rw e record {
-            size = k.size;
             count = omega (arith, longer, k.count);
             front = k.front ∙ sym (take-append-le 32 line (b ∷ []) h);
           }

@@ -1,52 +1,48 @@
 // The bytes of a read, one after another.
 
-ghost use Rattle.std.specs.Prelude.{◌≡◌, ◌+◌, ◌*◌, ◌≤◌, length};
-ghost use Rattle.std.proofs.lemmas.List.Edits.{sets};
+ghost use Rattle.std.specs.Prelude.{◌≡◌, ◌+◌, ◌*◌, ◌≤◌, ◌++◌, length};
+ghost use Rattle.arrayvec.specs.ArrayVec.{array_vec_len};
 ghost use Rattle.line_reads.specs.Reads as reads;
 
-use crate::starts::{empty, put_answer, with_byte};
-use crate::{AfterRead, Program, Start};
+use crate::{Answers, Program, Start};
+use decimals::put_text;
 
-// One byte more of the input; `at` is where the next answer goes.
-fn answer_byte(program: Program, start: Start, b: u8, at: usize, out: &mut [u8]) -> AfterRead
-    requires { at + 64 ≤ length out.old }
-    ensures value { result ≡ reads.byte_step program start b at }
-    ensures out_after { out.new
-        ≡ sets out.old at (reads.answer_at program start b) }
+// Puts the answer of a line, with its end, after those before it. The room of 64 bytes stays a
+// clause of each function: it is what `answer_read` counts, byte by byte of the read.
+#[tactic(auto, using(crate::specs::Lengths::answer_le), unfolding(crate::specs::Reads::answered))]
+pub fn put_answer(program: Program, start: &Start, out: &mut Answers)
+    requires { array_vec_len out.old + 64 ≤ 65536 }
+    ensures { out.new.items ≡ out.old.items ++ reads.answered program start.now }
+{
+    let answer = program.answer(start.as_slice());
+    put_text(answer.as_slice(), out);
+    out.push(b'\n');
+}
+
+// One byte more of the input.
+#[tactic(auto, unfolding(crate::specs::Reads::start_after, crate::specs::Reads::answer_at))]
+fn answer_byte(program: Program, start: &mut Start, b: u8, out: &mut Answers)
+    requires { array_vec_len out.old + 64 ≤ 65536 }
+    ensures begun { start.new ≡ reads.start_after start.old b }
+    ensures out_after { out.new.items ≡ out.old.items ++ reads.answer_at program start.old b }
 {
     if b == b'\n' {
-        let n = put_answer(program, start, &mut out[at..]);
-        let none = empty();
-        return AfterRead {
-            start: none,
-            written: at + n,
-        };
-    }
-    let longer = with_byte(start, b);
-    AfterRead {
-        start: longer,
-        written: at,
+        put_answer(program, start, out);
+        *start = Start::new();
+    } else {
+        start.push(b);
     }
 }
 
 // All bytes of a read.
-pub fn answer_bytes(program: Program, start: Start, input: &[u8], out: &mut [u8]) -> AfterRead
-    requires { 64 * length input.now ≤ length out.old }
-    ensures value { result ≡ reads.bytes_step program start input.now }
-    ensures out_after { out.new
-        ≡ sets out.old 0 (reads.answers_to program start input.now) }
+pub fn answer_bytes(program: Program, start: Start, read: &[u8], out: &mut Answers) -> Start
+    requires { array_vec_len out.old + 64 * length read.now ≤ 65536 }
+    ensures value { result ≡ reads.start_after_all start read.now }
+    ensures out_after { out.new.items ≡ out.old.items ++ reads.answers_to program start read.now }
 {
     let mut line = start;
-    let mut at: usize = 0;
-    let mut i: usize = 0;
-    while i < input.len() {
-        let after = answer_byte(program, line, input[i], at, out);
-        line = after.start;
-        at = after.written;
-        i += 1;
+    for b in read {
+        answer_byte(program, &mut line, *b, out);
     }
-    AfterRead {
-        start: line,
-        written: at,
-    }
+    line
 }

@@ -1,51 +1,41 @@
-// What the programs differ in: the header, and the answer to a line.
+// What the programs differ in: the name, the header, and the answer to a line.
 
-ghost use Rattle.std.specs.Prelude.{◌≡◌, ◌≤◌, length};
-ghost use Rattle.std.proofs.lemmas.List.Edits.{sets};
-ghost use Rattle.line_reads.specs.Reads.{times_header, header_line, answered_by};
+ghost use Rattle.std.specs.Prelude.{◌≡◌};
+ghost use Rattle.line_reads.specs.Reads.{name_of, header_line, answered_by};
 
 use crate::Program;
+use arrayvec::ArrayVec;
 
-// Puts the header of `times`, with its end, at the front of the room.
-fn put_names(out: &mut [u8]) -> usize
-    requires { 64 ≤ length out.old }
-    ensures value { result ≡ length times_header }
-    ensures out_after { out.new ≡ sets out.old 0 times_header }
-{
-    out[0] = b'd';
-    out[1] = b'a';
-    out[2] = b'y';
-    out[3] = b' ';
-    out[4] = b'u';
-    out[5] = b't';
-    out[6] = b' ';
-    out[7] = b't';
-    out[8] = b't';
-    out[9] = b'\n';
-    10
-}
-
-// Puts the header, with its end, at the front of the room; `dates` has none.
-pub fn put_header(program: Program, out: &mut [u8]) -> usize
-    requires { 64 ≤ length out.old }
-    ensures value { result ≡ length (header_line program) }
-    ensures out_after { out.new ≡ sets out.old 0 (header_line program) }
-{
-    match program {
-        Program::Times => put_names(out),
-        Program::Dates => 0,
+impl Program {
+    // The name that it is called by.
+    pub fn name(self) -> &'static str
+        ensures { result.now ≡ name_of self }
+    {
+        match self {
+            Program::Times => "times",
+            Program::Dates => "dates",
+        }
     }
-}
 
-// Puts the answer of a line, without its end, at the front of the room.
-pub fn print_answer(program: Program, line: &[u8], out: &mut [u8]) -> usize
-    requires { 64 ≤ length out.old }
-    ensures value { result ≡ length (answered_by program line.now) }
-    ensures out_after { out.new
-        ≡ sets out.old 0 (answered_by program line.now) }
-{
-    match program {
-        Program::Times => line_times::print_line(line, out),
-        Program::Dates => line_dates::print_date(line, out),
+    // The header with its end; `dates` has none.
+    #[tactic(auto, unfolding(crate::specs::Reads::header_line, rules::specs::Times::ended))]
+    pub(crate) fn header(self) -> &'static [u8]
+        ensures { result.now ≡ header_line self }
+    {
+        match self {
+            Program::Times => b"day ut tt\n",
+            Program::Dates => b"",
+        }
+    }
+
+    // The answer of a line, without its end.
+    #[tactic(auto, unfolding(crate::specs::Reads::answered_by))]
+    pub(crate) fn answer(self, line: &[u8]) -> ArrayVec<u8, 64>
+        ensures { result.items ≡ answered_by self line.now }
+    {
+        match self {
+            Program::Times => line_times::printed_for(line),
+            Program::Dates => line_dates::date_line(line),
+        }
     }
 }

@@ -1,51 +1,69 @@
-// The start of a line, and its answer.
+// What is kept of a line that a read breaks off in.
 
-ghost use Rattle.std.specs.Prelude.{◌≡◌, ◌≤◌, min, length};
-ghost use Rattle.std.proofs.lemmas.List.Edits.{sets};
-ghost use Rattle.line_reads.specs.Reads.{none, with_byte, answered};
+ghost use Rattle.std.specs.Prelude.{◌≡◌, ◌==◌, length};
+ghost use Rattle.line_reads.specs.Reads as reads;
 
-use crate::programs::print_answer;
-use crate::{Program, Start};
+use std::marker::Model;
 
-// No line has begun.
-pub fn empty() -> Start
-    ensures { result ≡ none }
-{
-    Start {
-        bytes: [0u8; 32],
-        len: 0,
+// The start of a line: its first bytes, as many as there is room for. A longer line is of another
+// form, and so is its start, so nothing is lost.
+// A buffer with its length by hand, since a start is Copy, and no vector of the kit is.
+#[derive(Clone, Copy)]
+pub struct Start {
+    bytes: [u8; 32],
+    len: usize,
+}
+
+// A contract sees its bytes alone. The buffer is nought after them, so they tell all of it.
+impl Model for Start {
+    ghost use Rattle.std.specs.Prelude.{List, ℕ};
+
+    ghost Value = { List ℕ };
+
+    ghost use Rattle.line_reads.specs.Reads.{held, Padded, fields_of};
+    ghost use Rattle.line_reads.specs.Paddings.{fields_back};
+
+    ghost view = { held };
+
+    ghost invariant = { Padded };
+
+    ghost inverse = { fields_of };
+
+    ghost inverse_ok = { fields_back };
+}
+
+impl Start {
+    // No line has begun.
+    pub(crate) fn new() -> Start
+        ensures { result ≡ reads.none }
+    {
+        Start {
+            bytes: [0; 32],
+            len: 0,
+        }
     }
-}
 
-// One byte more, where there is room for it.
-pub fn with_byte(start: Start, b: u8) -> Start
-    ensures { result ≡ with_byte start b }
-{
-    let at = start.len;
-    let mut longer = start;
-    if at < 32 {
-        longer.bytes[at] = b;
-        longer.len = at + 1;
+    // Whether no line has begun.
+    pub(crate) fn is_empty(&self) -> bool
+        ensures { result ≡ (length self.now == 0) }
+    {
+        self.len == 0
     }
-    longer
-}
 
-// The smaller of two numbers.
-pub fn at_most(n: usize, most: usize) -> usize
-    ensures { result ≡ min n most }
-{
-    if n < most { n } else { most }
-}
+    // Its bytes.
+    pub(crate) fn as_slice(&self) -> &[u8]
+        ensures { result.now ≡ self.now }
+    {
+        &self.bytes[..self.len]
+    }
 
-// Puts the answer of a line, with its end, at the front of the room.
-pub fn put_answer(program: Program, start: Start, out: &mut [u8]) -> usize
-    requires { 64 ≤ length out.old }
-    ensures value { result ≡ length (answered program start) }
-    ensures out_after { out.new ≡ sets out.old 0 (answered program start) }
-{
-    let bytes = start.bytes;
-    let len = at_most(start.len, 32);
-    let n = print_answer(program, &bytes[..len], out);
-    out[n] = b'\n';
-    n + 1
+    // One byte more, where there is room for it.
+    pub(crate) fn push(&mut self, b: u8)
+        ensures { self.new ≡ reads.with_byte self.old b }
+    {
+        if self.len < 32 {
+            self.bytes[self.len] = b;
+            self.len += 1;
+        }
+    }
 }

@@ -1,45 +1,41 @@
-// What `times` prints for a line, put at the front of lent memory.
+// What `times` prints for a line, as a text.
 
-ghost use Rattle.std.specs.Prelude.{◌≡◌, ◌≤◌, length};
-ghost use Rattle.std.proofs.lemmas.List.Edits.{sets};
+ghost use Rattle.std.specs.Prelude.{◌≡◌};
 ghost use Rattle.rules.specs.Times as rule;
 ghost use Rattle.line_times.specs.Printed.{answer_to};
 
-use decimals::{put_answer, put_refused};
-use rules::{Instants, Line, Moment, Numbered};
+use arrayvec::ArrayVec;
+use decimals::{put_answer, put_refused, refused};
+use rules::{Instants, Moment, Refusal};
 
 // The instants of a moment on a day, or the refusal.
-fn put_instants(day: i64, instants: Instants, out: &mut [u8]) -> usize
-    requires { 64 ≤ length out.old }
-    ensures value { result ≡ length (rule.answer_line day instants) }
-    ensures out_after { out.new ≡ sets out.old 0 (rule.answer_line day instants) }
+fn answer(day: i64, instants: Result<Instants, Refusal>) -> ArrayVec<u8, 64>
+    ensures { result.items ≡ rule.answer_line day instants }
 {
+    let mut text = ArrayVec::new();
     match instants {
-        Instants::At(ut, tt) => put_answer(day, ut.0, tt.0, out),
-        Instants::Refused(r) => put_refused(refusals::number(r), out),
+        Ok(at) => put_answer(day, at.ut.0, at.tt.0, &mut text),
+        Err(r) => put_refused(refusals::number(r), &mut text),
     }
+    text
 }
 
 // The answer of a moment.
-fn put_moment(moment: Moment, out: &mut [u8]) -> usize
-    requires { 64 ≤ length out.old }
-    ensures value { result ≡ length (answer_to moment) }
-    ensures out_after { out.new ≡ sets out.old 0 (answer_to moment) }
+fn answer_to(moment: Moment) -> ArrayVec<u8, 64>
+    ensures { result.items ≡ answer_to moment }
 {
     match calendar::day_of(moment.date) {
-        Numbered::Day(n) => put_instants(n, instants::instants(moment), out),
-        Numbered::Refused(r) => put_refused(refusals::number(r), out),
+        Ok(day) => answer(day, instants::instants(moment)),
+        Err(r) => refused(refusals::number(r)),
     }
 }
 
 // The answer of a line.
-pub fn put_line(line: Line, out: &mut [u8]) -> usize
-    requires { 64 ≤ length out.old }
-    ensures value { result ≡ length (rule.printed line) }
-    ensures out_after { out.new ≡ sets out.old 0 (rule.printed line) }
+pub fn printed(line: Option<Moment>) -> ArrayVec<u8, 64>
+    ensures { result.items ≡ rule.printed line }
 {
     match line {
-        Line::Of(moment) => put_moment(moment, out),
-        Line::Other => put_refused(0, out),
+        Some(moment) => answer_to(moment),
+        None => refused(0),
     }
 }

@@ -2,26 +2,26 @@
 
 // A list file read: its checks, its count, and a star by its index.
 
-ghost use Rattle.std.specs.Prelude.{◌≡◌, length, drop, ◌+◌, ◌*◌, ◌≤◌};
-ghost use Rattle.rules.specs.ListFile.{head_length, record_length, star_in, stars_in, any_refused, record_at};
-ghost use Rattle.rules.specs.ListReading.{mark_refused, list_count};
-ghost use Rattle.rules.specs.ListReading.{list_star};
+ghost use Rattle.std.specs.Prelude.{◌≡◌, length, ◌/◌, ◌≤◌};
+ghost use Rattle.rules.specs.ListFile.{record_length, star_in, stars_in, any_refused};
+ghost use Rattle.rules.specs.ListReading.{mark_refused, list_count, list_star};
 
-use list_bytes::{number_at, two_bytes_at};
-use rules::{Listed, ListedStar, Refusal, Star};
+use list_bytes::{number_in, word_in};
+use rules::{Refusal, Star};
 use stars::star_refused;
 use units::{HEAD_BYTES, MOST_RECORDS, RECORD_BYTES};
 
-// The star of the record that starts at `at`.
-pub fn star_at(file: &[u8], at: usize) -> Star
-    requires { at + record_length ≤ length file.now }
-    ensures { result ≡ star_in (drop at file.now) }
+// The star of the record that the bytes begin with. As a slice, here and in what puts a record: a
+// list's room lends its parts by their places, and they have no length in their type.
+pub fn star_in(bytes: &[u8]) -> Star
+    requires { record_length ≤ length bytes.now }
+    ensures { result ≡ star_in bytes.now }
 {
     Star {
-        ra: number_at(file, at, 8),
-        declination: number_at(file, at + 8, 8),
-        ra_motion: number_at(file, at + 16, 4) as i32,
-        declination_motion: number_at(file, at + 20, 4) as i32,
+        ra: number_in(&bytes[..8]),
+        declination: number_in(&bytes[8..16]),
+        ra_motion: number_in(&bytes[16..20]) as i32,
+        declination_motion: number_in(&bytes[20..24]) as i32,
     }
 }
 
@@ -29,34 +29,17 @@ pub fn star_at(file: &[u8], at: usize) -> Star
 fn mark_refused(file: &[u8]) -> bool
     ensures { result ≡ mark_refused file.now }
 {
-    if file.len() < HEAD_BYTES {
-        return true;
-    }
-    if file[0] != 83 {
-        return true;
-    }
-    if file[1] != 76 {
-        return true;
-    }
-    if file[2] != 84 {
-        return true;
-    }
-    two_bytes_at(file, 3) != 1
+    file.len() < HEAD_BYTES || !file.starts_with(b"SLT") || word_in(&file[3..]) != 1
 }
 
-// Refusal 5: one of the first `count` records has a star that is refused.
-fn any_refused(file: &[u8], count: usize) -> bool
-    requires { record_at count ≤ length file.now }
-    ensures { result ≡ any_refused (stars_in count (drop head_length file.now)) }
+// Refusal 5: one of the whole records has a star that is refused. Its likes of entries and of
+// numbers each ask it of what they walk: what they share is in `stars`.
+fn any_refused(records: &[u8]) -> bool
+    ensures { result
+        ≡ any_refused (stars_in (length records.now / record_length) records.now) }
 {
-    let mut i: usize = 0;
-    while i < count {
-        if star_refused(star_at(file, HEAD_BYTES + RECORD_BYTES * i)) {
-            return true;
-        }
-        i += 1;
-    }
-    false
+    let (records, _) = records.as_chunks::<RECORD_BYTES>();
+    records.iter().any(|record| star_refused(star_in(record)))
 }
 
 // How many records a list file has.
@@ -64,25 +47,23 @@ fn any_refused(file: &[u8], count: usize) -> bool
 // Given: file, any bytes.
 // Returned: the count, 0 to 64; or refusal 9, 10 or 5.
 // Rule: docs/RULES.md, "Lists" and "Refusal numbers".
-pub fn list_count(file: &[u8]) -> Listed
+pub fn list_count(file: &[u8]) -> Result<usize, Refusal>
     ensures { result ≡ list_count file.now }
 {
     if mark_refused(file) {
-        return Listed::Refused(Refusal::Mark);
+        return Err(Refusal::Mark);
     }
-    // a number of the file, until it is known to be small: then an index
-    let number = two_bytes_at(file, 5);
-    if (MOST_RECORDS as i64) < number {
-        return Listed::Refused(Refusal::Count);
+    let count = usize::from(word_in(&file[5..]));
+    if MOST_RECORDS < count {
+        return Err(Refusal::Count);
     }
-    let count = number as usize;
     if file.len() != HEAD_BYTES + RECORD_BYTES * count {
-        return Listed::Refused(Refusal::Count);
+        return Err(Refusal::Count);
     }
-    if any_refused(file, count) {
-        return Listed::Refused(Refusal::Star);
+    if any_refused(&file[HEAD_BYTES..]) {
+        return Err(Refusal::Star);
     }
-    Listed::Count(count)
+    Ok(count)
 }
 
 // A star of a list file.
@@ -90,17 +71,15 @@ pub fn list_count(file: &[u8]) -> Listed
 // Given: file, any bytes; index, from 0.
 // Returned: the star; or refusal 9, 10 or 5; or 11 where the file has no such record.
 // Rule: docs/RULES.md, "Lists" and "Refusal numbers".
-pub fn list_star(file: &[u8], index: usize) -> ListedStar
+//
+// The record's place is by its index: it is one record, and no walk over them.
+pub fn list_star(file: &[u8], index: usize) -> Result<Star, Refusal>
     ensures { result ≡ list_star file.now index }
 {
-    match list_count(file) {
-        Listed::Refused(r) => ListedStar::Refused(r),
-        Listed::Count(count) => {
-            if index < count {
-                ListedStar::Of(star_at(file, HEAD_BYTES + RECORD_BYTES * index))
-            } else {
-                ListedStar::Refused(Refusal::Room)
-            }
-        }
+    let count = list_count(file)?;
+    if index < count {
+        Ok(star_in(&file[HEAD_BYTES + RECORD_BYTES * index..]))
+    } else {
+        Err(Refusal::Room)
     }
 }

@@ -6,7 +6,7 @@ ghost use Rattle.rules.specs.Utc as rule;
 ghost use Rattle.answers.specs.Answers.{clocked_out};
 ghost use Rattle.answers.specs.Given.{tt_of};
 
-use answers::clocks::{TurbelicusClocked, clocked_out};
+use answers::clocks::TurbelicusClocked;
 use rules::Tt;
 use utc::utc_of_tt;
 
@@ -18,5 +18,5 @@ use utc::utc_of_tt;
 pub fn turbelicus_utc(tt: i64) -> TurbelicusClocked
     ensures { result ≡ clocked_out (clocked_answer (rule.utc_of_tt (tt_of tt))) }
 {
-    clocked_out(utc_of_tt(Tt(tt)))
+    utc_of_tt(Tt(tt)).into()
 }

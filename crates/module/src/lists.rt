@@ -7,9 +7,7 @@ ghost use Rattle.rules.specs.ListReading.{list_count, list_star};
 ghost use Rattle.rules.specs.ListWriting.{numbers_written, room_after_numbers};
 ghost use Rattle.answers.specs.Answers.{counted_out, starred_out, written_out};
 
-use answers::lists::{
-    TurbelicusCounted, TurbelicusStarred, TurbelicusWritten, counted_out, starred_out, written_out,
-};
+use answers::lists::{TurbelicusCounted, TurbelicusStarred, TurbelicusWritten};
 
 // How many records a list file has.
 //
@@ -19,7 +17,7 @@ use answers::lists::{
 pub fn turbelicus_list_count(file: &[u8]) -> TurbelicusCounted
     ensures { result ≡ counted_out (listed_answer (list_count file.now)) }
 {
-    counted_out(list_file::list_count(file))
+    list_file::list_count(file).into()
 }
 
 // A star of a list file.
@@ -30,7 +28,7 @@ pub fn turbelicus_list_count(file: &[u8]) -> TurbelicusCounted
 pub fn turbelicus_list_star(file: &[u8], index: usize) -> TurbelicusStarred
     ensures { result ≡ starred_out (listed_star_answer (list_star file.now index)) }
 {
-    starred_out(list_file::list_star(file, index))
+    list_file::list_star(file, index).into()
 }
 
 // A list file of a row of numbers, four to a star, written at once.
@@ -45,5 +43,5 @@ pub fn turbelicus_list_write(numbers: &[i64], room: &mut [u8]) -> TurbelicusWrit
         (numbers_written numbers.now room.old)))
         × (room.new ≡ room_after_numbers numbers.now room.old) }
 {
-    written_out(list_from_numbers::list_write(numbers, room))
+    list_from_numbers::list_write(numbers, room).into()
 }

@@ -1,5 +1,5 @@
-// The place of a star with its observed altitude: the two calls for them, one after the other, so
-// that the place alone takes no more than it did.
+// The place of a star with its observed altitude: the two calls for them, one after the other. With
+// `?` over their Results the place alone and the altitude alone take 17 and 26 instructions more.
 
 ghost use Rattle.std.specs.Prelude.{◌≡◌};
 ghost use Rattle.rules.specs.Answers.{observed_answer};

@@ -7,8 +7,9 @@ ghost use Rattle.stars.specs.Numbers.{star_of};
 ghost use Rattle.answers.specs.Given.{moment_of, site_of};
 ghost use Rattle.answers.specs.Answers.{placed_out};
 
-use answers::places::{TurbelicusPlaced, placed_out};
-use rules::{Date, Moment, Site, Star, Time};
+use answers::given::moment_of;
+use answers::places::TurbelicusPlaced;
+use rules::{Site, Star};
 
 // The place of a star at a moment and a site.
 //
@@ -38,16 +39,7 @@ pub fn turbelicus_place(
         (star_of ra declination ra_motion declination_motion)
         (site_of latitude longitude))) }
 {
-    let moment = Moment {
-        date: Date { year, month, day },
-        time: Time {
-            hour,
-            minute,
-            second,
-            ms,
-        },
-        ut1_minus_utc,
-    };
+    let moment = moment_of(year, month, day, hour, minute, second, ms, ut1_minus_utc);
     let star = Star {
         ra,
         declination,
@@ -58,5 +50,5 @@ pub fn turbelicus_place(
         latitude,
         longitude,
     };
-    placed_out(place::place(moment, star, site))
+    place::place(moment, star, site).into()
 }

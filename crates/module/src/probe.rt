@@ -6,26 +6,24 @@ ghost use Rattle.rules.specs.Refraction as rule;
 ghost use Rattle.answers.specs.Given.{weather_of, taken_by_kind};
 ghost use Rattle.answers.specs.Answers.{weathered_out, altitude_out};
 
-use answers::observed::{TurbelicusAltitude, altitude_out};
-use answers::probe::{TurbelicusWeathered, weather_of, weathered_out};
+use answers::given::weather_of;
+use answers::observed::TurbelicusAltitude;
+use answers::probe::TurbelicusWeathered;
 use refraction::observed::observed_altitude;
-use rules::{Reading, Weather, Weathered};
+use rules::{Reading, Weather};
 use weather::kept::take_from;
 
-// The record with a reading by its kind.
-fn take_kind(w: Weather, kind: i32, x: f32) -> Weathered
+// The record with a reading by its kind: a number as C gives it, of which any is taken and those
+// but 0 to 2 are refused.
+fn take_kind(w: Weather, kind: i32, x: f32) -> Result<Weather, Weather>
     ensures { result ≡ taken_by_kind w kind x }
 {
-    if kind == 0 {
-        return take_from(w, Reading::Nothing);
+    match kind {
+        0 => take_from(w, Reading::Nothing),
+        1 => take_from(w, Reading::Pressure(x)),
+        2 => take_from(w, Reading::Temperature(x)),
+        _ => Err(w),
     }
-    if kind == 1 {
-        return take_from(w, Reading::Pressure(x));
-    }
-    if kind == 2 {
-        return take_from(w, Reading::Temperature(x));
-    }
-    Weathered::Refused(w)
 }
 
 // The weather record with one more reading of the probe.
@@ -35,6 +33,8 @@ fn take_kind(w: Weather, kind: i32, x: f32) -> Weathered
 // Returned: the record with the reading; or refusal 14 and the record as it was, where the reading,
 // or one that has come before, is not accepted, or the kind is another.
 // Rule: docs/RULES.md, "Refraction".
+//
+// The kind is a number and a flag an i32, as C gives them.
 pub fn turbelicus_weather(
     pressure: f32,
     temperature: f32,
@@ -47,7 +47,7 @@ pub fn turbelicus_weather(
         (weather_of pressure temperature has_pressure has_temperature) kind reading) }
 {
     let w = weather_of(pressure, temperature, has_pressure, has_temperature);
-    weathered_out(take_kind(w, kind, reading))
+    take_kind(w, kind, reading).into()
 }
 
 // The observed altitude of an altitude.
@@ -67,5 +67,5 @@ pub fn turbelicus_observed_altitude(
         (weather_of pressure temperature has_pressure has_temperature) altitude)) }
 {
     let w = weather_of(pressure, temperature, has_pressure, has_temperature);
-    altitude_out(observed_altitude(altitude, w))
+    observed_altitude(altitude, w).into()
 }

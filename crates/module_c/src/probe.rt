@@ -16,6 +16,8 @@ use answers::probe::TurbelicusWeathered;
 // Returned: the record with the reading; or refusal 14 and the record as it was, where the reading,
 // or one that has come before, is not accepted, or the kind is another.
 // Rule: docs/RULES.md, "Refraction".
+//
+// The kind is a number and a flag an i32, as C gives them.
 #[unsafe(no_mangle)]
 pub extern "C" fn turbelicus_weather(
     pressure: f32,

@@ -14,6 +14,8 @@ use answers::turns::{TurbelicusRead, TurbelicusTurned};
 // Given: x, y, z in parts of 2^30; axis, 1 to 3; angle in µas: any numbers.
 // Returned: the direction in parts of 2^30; or refusal 7 or 8.
 // Rule: docs/RULES.md, "Turns, readings, place".
+//
+// The axis is a number, as C gives it: another than 1 to 3 is refusal 8.
 #[unsafe(no_mangle)]
 pub extern "C" fn turbelicus_turn(x: i64, y: i64, z: i64, axis: i64, angle: i64) -> TurbelicusTurned
     ensures { result ≡ turned_out (turned_answer (rule.turned axis angle (direction_of x y z))) }

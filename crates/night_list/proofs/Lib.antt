@@ -1,3 +1,2 @@
--- what the loop needs of lists, and of its plan
-pub mod Lists
-pub mod Planned
+-- what the checks decide
+pub mod Checked

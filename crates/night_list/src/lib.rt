@@ -5,8 +5,8 @@
 ghost use Rattle.std.specs.Prelude.{◌≡◌};
 ghost use Rattle.rules.specs.NightList.{night_list, entries_after_night};
 
-use night_list_checks::{answer, entry_after, plan_of, tally};
-use rules::{Entry, Listed, Moment, Site};
+use night_list_checks::{filled, night_for, worked};
+use rules::{Entry, Moment, Refusal, Site};
 
 // A night list, worked where it stands.
 //
@@ -16,21 +16,16 @@ use rules::{Entry, Listed, Moment, Site};
 // four noughts where its star is refused. Or refusal 1 to 4, 6 or 11, and all entries stay.
 // Rule: docs/RULES.md, "Lists".
 //
-// The night is worked once. A refusal is a plan with nothing to do, so no test stands beside the
-// loop's own.
-pub fn night_list(moment: Moment, site: Site, entries: &mut [Entry]) -> Listed
+// The night is worked once.
+//
+// Moment and site stay two, as the rule and C give them.
+pub fn night_list(moment: Moment, site: Site, entries: &mut [Entry]) -> Result<usize, Refusal>
     ensures { (result ≡ night_list moment site entries.old)
         × (entries.new ≡ entries_after_night moment site entries.old) }
 {
-    let plan = plan_of(moment, site, entries.len());
-    let todo = plan.todo;
-    let mut n: i64 = 0;
-    let mut i: usize = 0;
-    while i < todo {
-        let entry = entry_after(plan, entries[i]);
-        entries[i] = entry;
-        n = tally(n, entry);
-        i += 1;
+    let night = night_for(moment, site, entries.len())?;
+    for entry in entries.iter_mut() {
+        *entry = worked(night, entry.star);
     }
-    answer(plan, n)
+    Ok(filled(entries))
 }

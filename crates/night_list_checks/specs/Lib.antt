@@ -1,2 +1,2 @@
 -- What the contracts cite beside the rules.
-pub mod Plans
+pub mod Checks

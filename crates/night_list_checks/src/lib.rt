@@ -1,61 +1,32 @@
 #![tactic(auto)]
 
-// The night list but for its walk: the checks before, an entry worked by its value, the answer.
+// The night list but for its walk: the checks before, a star worked as an entry, and how many are
+// filled.
 
-ghost use Rattle.std.specs.Prelude.{◌≡◌, cond, pos, nat_abs, ◌+ℤ◌, ◌≤ℤ◌, ◌<◌, ◌^◌};
+ghost use Rattle.std.specs.Prelude.{◌≡◌};
 ghost use Rattle.rules.specs.Night.{night_of};
 ghost use Rattle.rules.specs.ListReading.{fresh_entry};
 ghost use Rattle.rules.specs.NightList as nights;
-ghost use Rattle.laws.specs.Night.{NightFits};
-ghost use Rattle.night_list_checks.specs.Plans.{todo_of, plan_of, entry_after, answer_of};
-ghost use Rattle.night_list_checks.specs.Plans.{PreparedFits};
+ghost use Rattle.night_list_checks.specs.Checks.{night_for};
 
 use marks::{is_filled, mark_of, or_nought};
 use night::night_of;
 use place::place_in;
-use rules::{Angles, Entry, Listed, Moment, Night, Place, Prepared, Refusal, Site, Star};
+use rules::{Angles, Entry, Moment, Place, Refusal, Site, Star};
 use stars::star_refused;
+use steps::ready::ReadyNight;
 use units::MOST_RECORDS;
 
-// What the checks of a list came to: its night, how many entries it has, and how many are to be
-// worked: all, or none where the list is refused.
-#[derive(Clone, Copy)]
-pub struct NightPlan {
-    pub night: Prepared,
-    pub count: usize,
-    pub todo: usize,
-}
-
-// How many entries are to be worked.
-fn todo_of(night: Prepared, count: usize) -> usize
-    ensures { result ≡ todo_of night count }
+// The night, worked once, of a list of `count` entries, and the checks: 1 to 4, 6, then 11. Moment
+// and site stay two, as the rule and C give them.
+pub fn night_for(moment: Moment, site: Site, count: usize) -> Result<ReadyNight, Refusal>
+    ensures { result ≡ night_for (night_of moment site) count }
 {
-    match night {
-        Prepared::Refused(_) => 0,
-        Prepared::For(_) => { if MOST_RECORDS < count { 0 } else { count } }
+    let night = night_of(moment, site)?;
+    if MOST_RECORDS < count {
+        return Err(Refusal::Room);
     }
-}
-
-// The night, worked once, and the checks: 1 to 4, 6, then 11.
-pub fn plan_of(moment: Moment, site: Site, count: usize) -> NightPlan
-    ensures { result ≡ plan_of (night_of moment site) count }
-{
-    let night = night_of(moment, site);
-    let todo = todo_of(night, count);
-    NightPlan { night, count, todo }
-}
-
-// An entry with its mark and its place, or with mark 5 and noughts.
-pub fn entry_after(plan: NightPlan, entry: Entry) -> Entry
-    requires { PreparedFits plan.night }
-    ensures { result ≡ entry_after plan.night entry }
-{
-    let star = entry.star;
-    let night = plan.night;
-    match night {
-        Prepared::Refused(_) => entry,
-        Prepared::For(night) => worked(night, star),
-    }
+    Ok(night)
 }
 
 // A star of a night as an entry.
@@ -63,20 +34,14 @@ pub fn entry_after(plan: NightPlan, entry: Entry) -> Entry
 // Given: night, as `night::night_of` gives it; star, any.
 // Returned: the star with its mark and angles; or, where it is refused, with mark 5 and noughts.
 // Rule: docs/RULES.md, "Lists": mark 0 or 1 and four angles, or mark 5 and four noughts.
-fn worked(night: Night, star: Star) -> Entry
-    requires { NightFits night }
+pub fn worked(night: ReadyNight, star: Star) -> Entry
     ensures { result ≡ nights.worked night (fresh_entry star) }
 {
     if star_refused(star) {
         return Entry {
-            star: star,
+            star,
             mark: 5,
-            angles: Angles {
-                ra: 0,
-                declination: 0,
-                azimuth: 0,
-                altitude: 0,
-            },
+            angles: Angles::default(),
         };
     }
     entry_of(star, place_in(night, star))
@@ -89,7 +54,7 @@ fn entry_of(star: Star, place: Place) -> Entry
     let ra = place.ra;
     let azimuth = place.azimuth;
     Entry {
-        star: star,
+        star,
         mark: mark_of(ra, azimuth),
         angles: Angles {
             ra: or_nought(ra),
@@ -100,29 +65,9 @@ fn entry_of(star: Star, place: Place) -> Entry
     }
 }
 
-// One more where the entry is filled: marked 0 or 1.
-pub fn tally(n: i64, entry: Entry) -> i64
-    requires { nat_abs n < 2 ^ 62 }
-    ensures { result ≡ n +ℤ pos (cond (nights.filled entry) 1 0) }
+// How many entries are filled: marked 0 or 1.
+pub fn filled(entries: &[Entry]) -> usize
+    ensures { result ≡ nights.marked entries.now }
 {
-    if is_filled(entry) { n + 1 } else { n }
-}
-
-// What a list answers: its refusal, or how many entries are marked 0 or 1.
-pub fn answer(plan: NightPlan, n: i64) -> Listed
-    requires { pos 0 ≤ℤ n }
-    ensures { result ≡ answer_of plan (nat_abs n) }
-{
-    let counted = n as usize;
-    let night = plan.night;
-    match night {
-        Prepared::Refused(r) => Listed::Refused(r),
-        Prepared::For(_) => {
-            if MOST_RECORDS < plan.count {
-                Listed::Refused(Refusal::Room)
-            } else {
-                Listed::Count(counted)
-            }
-        }
-    }
+    entries.iter().filter(|entry| is_filled(**entry)).count()
 }

@@ -11,6 +11,7 @@ ghost use Rattle.laws.specs.Angles.{Sized};
 ghost use Rattle.night_pairs.specs.Given.{ScaledFits, LocalFits};
 ghost use Rattle.night_pairs.specs.Parts.{opposite, local_angle};
 
+use polynomials::range::InRange;
 use rules::{Direction, Pair, Ut};
 use units::{CIRCLE, QUARTER};
 
@@ -19,6 +20,9 @@ const ABERRATION: i64 = 106692;
 
 // The same times the eccentricity of the Earth's orbit.
 const ECCENTRIC: i64 = 1783;
+
+// `Sized` stays a clause of each: a type of sized pairs would be no plainer, as the callers would
+// wrap what `circle::pair` answers at each call and unwrap it for the night.
 
 // The pair of the opposite angle.
 pub fn opposite_of(p: Pair) -> Pair
@@ -41,9 +45,9 @@ fn scaled(k: i64, part: i64) -> i64
 
 // 4. What aberration adds, of the pairs of the Sun's longitude, of ϖ and of ε.
 pub fn aberration(s: Pair, p: Pair, e: Pair) -> Direction
-    requires sized { Sized s }
-    requires sized_2 { Sized p }
-    requires sized_3 { Sized e }
+    requires sun_sized { Sized s }
+    requires perihelion_sized { Sized p }
+    requires obliquity_sized { Sized e }
     ensures { result ≡ rule.aberration s p e }
 {
     let by = aberration_y(s, p);
@@ -56,8 +60,8 @@ pub fn aberration(s: Pair, p: Pair, e: Pair) -> Direction
 
 // 4. bx, of the pairs of the Sun's longitude and of ϖ.
 pub fn aberration_x(s: Pair, p: Pair) -> i64
-    requires sized { Sized s }
-    requires sized_2 { Sized p }
+    requires sun_sized { Sized s }
+    requires perihelion_sized { Sized p }
     ensures { result ≡ rule.aberration_x s p }
 {
     scaled(ABERRATION, s.sine) - scaled(ECCENTRIC, p.sine)
@@ -65,16 +69,16 @@ pub fn aberration_x(s: Pair, p: Pair) -> i64
 
 // 4. by, the same, before ε.
 pub fn aberration_y(s: Pair, p: Pair) -> i64
-    requires sized { Sized s }
-    requires sized_2 { Sized p }
+    requires sun_sized { Sized s }
+    requires perihelion_sized { Sized p }
     ensures { result ≡ rule.aberration_y s p }
 {
     -scaled(ABERRATION, s.cosine) + scaled(ECCENTRIC, p.cosine)
 }
 
 // 6. The pair of minus the local sidereal angle: Δψ, the cosine of ε, the site's longitude.
-pub fn sidereal_pair(ut: Ut, nutation: i64, cosine: i64, longitude: i64) -> Pair
-    requires { LocalFits ut nutation cosine longitude }
+pub fn sidereal_pair(ut: InRange<Ut>, nutation: i64, cosine: i64, longitude: i64) -> Pair
+    requires { LocalFits nutation cosine longitude }
     ensures { result ≡ pair (remainder (neg_ℤ (local_angle ut nutation cosine longitude))) }
 {
     let local = sidereal::sidereal_of(ut) + scaled(nutation, cosine) + longitude;

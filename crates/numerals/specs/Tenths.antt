@@ -1,6 +1,6 @@
 -- Our own program `places`, not document 01: a pressure or a temperature in a word, in tenths. Definitions only.
 -- An optional minus, 1 to 4 digits, and then nothing or a point and one digit: `1013`, `1013.2`, `-10.5`, `-0.5`.
-use Rattle.std.specs.Prelude.{ℕ, ◌+◌, ◌-◌, ◌*◌, Bool, cond, ◌&&◌, List, eqb, leb, ℤ, pos, neg_ℤ, length, take, get_or}
+use Rattle.std.specs.Prelude.{ℕ, ◌+◌, ◌-◌, ◌*◌, Bool, cond, ◌&&◌, List, eqb, leb, ℤ, pos, neg_ℤ, length, take, get_or, Option, Some, None}
 use Rattle.rules.specs.Numerals.{point, nought, is_digit, negative, unsigned, of_digits, spelled}
 
 -- ---- without the minus
@@ -33,3 +33,7 @@ of_tenths bs = of_size (unsigned bs)
 -- whole tenths, with the sign of the word: `-0.5` is −5
 unfoldable pub tenths_of : List ℕ → ℤ
 tenths_of bs = let size = pos (size_of (unsigned bs)) in cond (negative bs) (neg_ℤ size) size
+
+-- the number in a word; none where it is of another form
+unfoldable pub tenths_in : List ℕ → Option ℤ
+tenths_in bs = cond (of_tenths bs) (Some (tenths_of bs)) None

@@ -1,12 +1,12 @@
 -- The parts of a number in tenths, with a point and without.
-use Rattle.std.specs.Prelude.{◌≡◌, refl, Bool, true, false, cond, ◌&&◌, List, ℕ, ◌+◌, ◌-◌, ◌*◌, ◌≤◌, ◌<◌, eqb, leb, length, take, get_or}
+use Rattle.std.specs.Prelude.{◌≡◌, refl, Bool, true, false, cond, ◌&&◌, List, ℕ, ◌+◌, ◌-◌, ◌*◌, ◌≤◌, ◌<◌, eqb, leb, length, take, get_or, ℤ, Some, None}
 use Rattle.std.proofs.Common.{sym, ap, ◌∙◌, arith, leb-true, le-leb}
 use Rattle.std.proofs.lemmas.Bool.{lt-leb}
 use Rattle.rules.specs.Numerals.{point, nought, is_digit, of_digits, spelled}
 use Rattle.laws.specs.Ranges.{both_true}
 use Rattle.laws.specs.Lines.{of_digits_le}
 use Rattle.numerals.specs.Digits.{digit_le, digits_lt}
-use Rattle.numerals.specs.Tenths.{has_point, before_point, after_point, of_size, size_of}
+use Rattle.numerals.specs.Tenths.{has_point, before_point, after_point, of_size, size_of, of_tenths, tenths_of, tenths_in}
 
 -- ---- the point
 
@@ -70,3 +70,22 @@ unfolding of_size size_of
 size_le bs e =
     let u = both_true (of_digits 4 (before_point bs)) (is_digit (after_point bs)) e in
     omega (arith, digits_lt 4 (before_point bs) u.0, digit_le (after_point bs) u.1)
+
+-- ---- a word that is a number, and one that is none
+
+pub tenths_some : (bs : List ℕ) (z : ℤ) → tenths_in bs ≡ Some z → (of_tenths bs ≡ true) × (tenths_of bs ≡ z)
+unfolding tenths_in
+tenths_some bs z e = go (of_tenths bs) refl e
+  where
+    go : (b : Bool) → of_tenths bs ≡ b → cond b (Some (tenths_of bs)) None ≡ Some z
+        → (of_tenths bs ≡ true) × (tenths_of bs ≡ z)
+    go true f e = (f, cc)
+    go false f e = absurd cc
+
+pub tenths_none : (bs : List ℕ) → tenths_in bs ≡ None → of_tenths bs ≡ false
+unfolding tenths_in
+tenths_none bs e = go (of_tenths bs) refl e
+  where
+    go : (b : Bool) → of_tenths bs ≡ b → cond b (Some (tenths_of bs)) None ≡ None → of_tenths bs ≡ false
+    go true f e = absurd cc
+    go false f e = f

@@ -1,21 +1,33 @@
 // A line of `times` read: whether its fields have their form, and the numbers in them.
 
-ghost use Rattle.std.specs.Prelude.{◌≡◌, true, ◌≤◌, ◌+◌, ◌-◌, length};
+ghost use Rattle.std.specs.Prelude.{◌≡◌, ◌≤◌, pos, length};
+ghost use Rattle.std.specs.List.{list_all, zip};
 ghost use Rattle.rules.specs.Numerals as rule;
 ghost use Rattle.rules.specs.Lines.{form, line_of};
-ghost use Rattle.laws.specs.Lines as law;
 
-use crate::{is_digit, of_number, signed, spelled};
-use rules::{Date, Line, Moment, Time};
+use crate::{parse, spelled};
+use rules::{Date, Moment, Time};
 
 // A 0 stands for any digit, every other byte for itself.
 const FORM: [u8; 24] = *b"0000-00-00 00:00:00.000 ";
 
 // Whether a byte is as the form's.
+#[tactic(auto, unfolding(rules::specs::Numerals::alike, rules::specs::Numerals::is_digit))]
 fn alike(f: u8, b: u8) -> bool
     ensures { result ≡ rule.alike f b }
 {
-    if is_digit(f) { is_digit(b) } else { f == b }
+    if f.is_ascii_digit() {
+        b.is_ascii_digit()
+    } else {
+        f == b
+    }
+}
+
+// Whether each byte is as the form's.
+fn all_alike(form: &[u8], s: &[u8]) -> bool
+    ensures { result ≡ list_all (λ p. rule.alike p.0 p.1) (zip form.now s.now) }
+{
+    form.iter().zip(s).all(|(&f, &b)| alike(f, b))
 }
 
 // Whether date and time have their form.
@@ -23,31 +35,15 @@ fn of_form(s: &[u8]) -> bool
     requires { length s.now ≡ 24 }
     ensures { result ≡ rule.of_form form s.now }
 {
-    let mut i = 0;
-    while i < 24 {
-        if !alike(FORM[i], s[i]) {
-            return false;
-        }
-        i += 1;
-    }
-    true
+    all_alike(&FORM, s)
 }
 
 // The number in some bytes of a line.
-fn field(line: &[u8], from: usize, count: usize) -> i32
-    requires { (count ≤ 4) × (from + count ≤ length line.now) }
-    ensures { result ≡ rule.field from count line.now }
+fn field(digits: &[u8]) -> i32
+    requires { length digits.now ≤ 4 }
+    ensures { result ≡ pos (rule.spelled 0 digits.now) }
 {
-    let to = from + count;
-    spelled(&line[from..to]) as i32
-}
-
-// UT1-UTC.
-fn ut1_minus_utc(s: &[u8]) -> i32
-    requires { rule.of_number 4 s.now ≡ true }
-    ensures { result ≡ rule.signed s.now }
-{
-    signed(s) as i32
+    spelled(digits) as i32
 }
 
 // A line without its end.
@@ -55,30 +51,26 @@ fn ut1_minus_utc(s: &[u8]) -> i32
 // Given: any bytes.
 // Returned: its date, time of day and UT1-UTC; or that it is of another form.
 // Rule: docs/RULES.md, "Dates".
-pub fn line_of(line: &[u8]) -> Line
+pub fn line_of(line: &[u8]) -> Option<Moment>
     ensures { result ≡ line_of line.now }
 {
-    if line.len() < 24 {
-        return Line::Other;
+    let (head, rest) = line.split_at_checked(FORM.len())?;
+    if !of_form(head) {
+        return None;
     }
-    if !of_form(&line[..24]) {
-        return Line::Other;
-    }
-    if !of_number(&line[24..], 4) {
-        return Line::Other;
-    }
-    Line::Of(Moment {
+    let ut1_minus_utc = parse(rest, 4)? as i32;
+    Some(Moment {
         date: Date {
-            year: field(line, 0, 4),
-            month: field(line, 5, 2),
-            day: field(line, 8, 2),
+            year: field(&line[0..4]),
+            month: field(&line[5..7]),
+            day: field(&line[8..10]),
         },
         time: Time {
-            hour: field(line, 11, 2),
-            minute: field(line, 14, 2),
-            second: field(line, 17, 2),
-            ms: field(line, 20, 3),
+            hour: field(&line[11..13]),
+            minute: field(&line[14..16]),
+            second: field(&line[17..19]),
+            ms: field(&line[20..23]),
         },
-        ut1_minus_utc: ut1_minus_utc(&line[24..]),
+        ut1_minus_utc,
     })
 }

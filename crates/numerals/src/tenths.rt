@@ -1,32 +1,28 @@
 // A pressure or a temperature in a word, taken in whole tenths.
 
-ghost use Rattle.std.specs.Prelude.{◌≡◌, true, pos};
+ghost use Rattle.std.specs.Prelude.{◌≡◌, ◌≤◌, true, pos, nat_abs, IfSome};
 ghost use Rattle.numerals.specs.Tenths as rule;
 
-use crate::{is_digit, negative, of_digits, spelled, value};
+use crate::{of_digits, spelled, unsigned, value, with_sign};
 
-// Whether the last byte but one is a point.
-fn has_point(s: &[u8]) -> bool
-    ensures { result ≡ rule.has_point s.now }
+// The bytes before the point and the one after it; all of them and the digit 0 where there is no
+// point.
+fn parts(s: &[u8]) -> (&[u8], u8)
+    ensures before { result.0.now ≡ rule.before_point s.now }
+    ensures after { result.1 ≡ rule.after_point s.now }
 {
-    if s.len() < 2 {
-        return false;
+    match s {
+        [whole @ .., b'.', tenth] => (whole, *tenth),
+        _ => (s, b'0'),
     }
-    s[s.len() - 2] == b'.'
 }
 
 // Whether the bytes are 1 to 4 digits, and then nothing or a point and one digit.
 fn of_size(s: &[u8]) -> bool
     ensures { result ≡ rule.of_size s.now }
 {
-    if !has_point(s) {
-        return of_digits(s, 4);
-    }
-    let end = s.len() - 2;
-    if !of_digits(&s[..end], 4) {
-        return false;
-    }
-    is_digit(s[end + 1])
+    let (whole, tenth) = parts(s);
+    of_digits(whole, 4) && tenth.is_ascii_digit()
 }
 
 // Whether a word is a number with at most one digit after a point.
@@ -38,10 +34,7 @@ fn of_size(s: &[u8]) -> bool
 pub fn of_tenths(s: &[u8]) -> bool
     ensures { result ≡ rule.of_tenths s.now }
 {
-    if negative(s) {
-        return of_size(&s[1..]);
-    }
-    of_size(s)
+    of_size(unsigned(s))
 }
 
 // 10 times the number before the point, and the digit after it.
@@ -49,11 +42,8 @@ fn size_of(s: &[u8]) -> i64
     requires { rule.of_size s.now ≡ true }
     ensures { result ≡ pos (rule.size_of s.now) }
 {
-    if !has_point(s) {
-        return 10 * spelled(s);
-    }
-    let end = s.len() - 2;
-    10 * spelled(&s[..end]) + value(s[end + 1])
+    let (whole, tenth) = parts(s);
+    10 * spelled(whole) + value(tenth)
 }
 
 // The number in such a word, exactly.
@@ -65,8 +55,21 @@ pub fn tenths_of(s: &[u8]) -> i64
     requires { rule.of_tenths s.now ≡ true }
     ensures { result ≡ rule.tenths_of s.now }
 {
-    if negative(s) {
-        return 0 - size_of(&s[1..]);
+    with_sign(s, size_of(unsigned(s)))
+}
+
+// The number in a word, exactly.
+//
+// Given: any bytes.
+// Returned: whole tenths, with the sign of the word; or none where it is of another form.
+// Rule: specs/Tenths.antt.
+pub fn parse(s: &[u8]) -> Option<i64>
+    ensures value { result ≡ rule.tenths_in s.now }
+    ensures small { IfSome result (λ n. nat_abs n ≤ 99999) }
+{
+    if of_tenths(s) {
+        Some(tenths_of(s))
+    } else {
+        None
     }
-    size_of(s)
 }

@@ -5,16 +5,16 @@
 ghost use Rattle.std.specs.Prelude.{◌≡◌};
 ghost use Rattle.rules.specs.Arguments as rule;
 ghost use Rattle.rules.specs.Nutation.{term_angle, nutation, nutation_at};
-ghost use Rattle.laws.specs.Instant.{InRange};
 ghost use Rattle.nutation.specs.Products.{products_of};
 ghost use Rattle.nutation.specs.TermFits.{ArgumentsFit, TermFits};
 
-use crate::terms::{TERM_COUNT, term_at};
+use crate::terms::TERMS;
 use arguments::arguments_of;
 use circle::pair;
-use polynomials::{instant_refused, linear};
+use polynomials::linear;
+use polynomials::range::{InRange, in_range};
 use rounding::rnd_quotient;
-use rules::{Arguments, Nutated, Nutation, Refusal, Term, Tt};
+use rules::{Arguments, Nutation, Refusal, Term, Tt};
 use units::UNIT;
 
 mod terms;
@@ -25,19 +25,18 @@ mod terms;
 // Returned: Δψ and Δε in µas.
 // Rule: docs/RULES.md, "Polynomials in time", the table (IAU 1980). Each sum is rounded once, at
 // the end.
-pub fn nutation_of(t: Tt) -> Nutation
-    requires { InRange t.0 }
+pub fn nutation_of(t: InRange<Tt>) -> Nutation
     ensures { result ≡ nutation t }
 {
+    // read, so that the range in `InRange` is known here: that keeps the sums within the word
+    let _ = &t.at;
     let a = arguments_of(t);
     let mut longitude: i64 = 0;
     let mut obliquity: i64 = 0;
-    let mut k = 0;
-    while k < TERM_COUNT {
-        let p = products(t, a, term_at(k));
+    for term in &TERMS {
+        let p = products(t, a, *term);
         longitude += p.longitude;
         obliquity += p.obliquity;
-        k += 1;
     }
     Nutation {
         longitude: rnd_quotient(longitude, UNIT),
@@ -50,26 +49,25 @@ pub fn nutation_of(t: Tt) -> Nutation
 // Given: t, TT, any.
 // Returned: Δψ and Δε in µas, or refusal 12.
 // Rule: docs/RULES.md, "Polynomials in time", the table (IAU 1980).
-pub fn nutation(t: Tt) -> Nutated
+//
+// One like it stands for each angle: `polynomials::range::in_range` has what they share.
+pub fn nutation(t: Tt) -> Result<Nutation, Refusal>
     ensures { result ≡ nutation_at t }
 {
-    if instant_refused(t.0) {
-        return Nutated::Refused(Refusal::Instant);
-    }
-    Nutated::By(nutation_of(t))
+    Ok(nutation_of(in_range(t)?))
 }
 
 // The products of a term: amplitude with its change, times the sine in longitude and the cosine in
 // obliquity.
-fn products(t: Tt, a: Arguments, m: Term) -> Nutation
-    requires in_range { InRange t.0 }
+fn products(t: InRange<Tt>, a: Arguments, m: Term) -> Nutation
     requires a_value { a ≡ rule.arguments t }
     requires term_fits { TermFits m }
     ensures { result ≡ products_of t m }
 {
+    let ms = t.at.0;
     let p = pair(term_angle(a, m));
-    let sines = linear(t.0, m.longitude, m.longitude_change) * p.sine;
-    let cosines = linear(t.0, m.obliquity, m.obliquity_change) * p.cosine;
+    let sines = linear(ms, m.longitude, m.longitude_change) * p.sine;
+    let cosines = linear(ms, m.obliquity, m.obliquity_change) * p.cosine;
     Nutation {
         longitude: sines,
         obliquity: cosines,

@@ -12,13 +12,12 @@
 
 #![tactic(auto)]
 
-ghost use Rattle.std.specs.Prelude.{◌≤◌, IfOk};
+ghost use Rattle.std.specs.Prelude.{◌≤◌, length, IfOk};
 
 use input::reason::Reason;
 use input::{read_file, read_line};
-use line_places::air::Air;
 use line_places::command::{Command, command_of};
-use line_places::{ANSWER_ROOM, FILE_KEPT, LINE_KEPT, print_answer};
+use line_places::{Answer, FILE_KEPT, LINE_KEPT, print_answer};
 use std::env::FillError;
 use std::fs::File;
 use std::io;
@@ -36,125 +35,114 @@ const TOO_LONG: i32 = 36;
 
 const NOT_TEXT: i32 = 84;
 
-// Says why something failed, by its name. What cannot be said is lost.
-fn fail(rt: &HostRuntime, name: &[u8], error: io::Error) {
-    let why = Reason(error);
-    let errors = rt.stderr();
-    let _ = errors.write_all(b"places: ");
-    let _ = errors.write_all(name);
-    let _ = eprintln!(rt; ": {why}");
+// Why nothing is printed, or not all of it.
+#[derive(Clone, Copy)]
+enum Failure<'a> {
+    // A command of another form.
+    Usage,
+    // Standard input is closed.
+    Closed,
+    // What cannot be opened, read or written, by its name.
+    Of(&'a [u8], io::Error),
 }
 
-// A word of the command, as much of it as the room holds; or why it does not stand there.
-fn word(rt: &HostRuntime, index: usize, room: &mut [u8; WORD_KEPT]) -> io::Result<usize>
-    ensures { IfOk result (λ n. n ≤ 4096) }
-{
-    match rt.arg(index, room) {
-        Ok(length) => Ok(length),
-        Err(FillError::TooLong) => Err(io::Error::from_raw_os_error(TOO_LONG)),
-        Err(FillError::NotPresent) => Err(io::Error::from_raw_os_error(INVALID)),
-    }
+// Says why. What cannot be said is lost. No `Display`: a name may be no UTF-8, and is written as
+// its bytes.
+fn say(rt: &HostRuntime, failure: Failure) {
+    let _ = match failure {
+        Failure::Usage => {
+            eprintln!(rt; "usage: places FILE [sexagesimal] [PRESSURE TEMPERATURE]")
+        }
+        Failure::Closed => eprintln!(rt; "places: standard input: closed"),
+        Failure::Of(name, error) => {
+            let why = Reason(error);
+            let errors = rt.stderr();
+            let _ = errors.write_all(b"places: ");
+            let _ = errors.write_all(name);
+            eprintln!(rt; ": {why}")
+        }
+    };
 }
 
-// The length of a word; nought where it is missing or longer than its room.
-fn word_or_none(rt: &HostRuntime, index: usize, room: &mut [u8; WORD_KEPT]) -> usize
-    ensures { result ≤ 4096 }
-{
-    match word(rt, index, room) {
-        Ok(length) => length,
-        Err(_) => 0,
-    }
+// What the system says of a word that does not stand in its room.
+fn no_word(error: FillError) -> io::Error {
+    io::Error::from_raw_os_error(match error {
+        FillError::TooLong => TOO_LONG,
+        FillError::NotPresent => INVALID,
+    })
+}
+
+// A word of the command, where the room holds it; or why it does not stand there.
+fn word<'a>(rt: &HostRuntime, index: usize, room: &'a mut [u8; WORD_KEPT]) -> io::Result<&'a [u8]> {
+    let length = rt.arg(index, room).map_err(no_word)?;
+    Ok(&room[..length])
 }
 
 // How many words the command has, the program's name among them.
 fn word_count(rt: &HostRuntime) -> usize {
-    let mut count = 0;
-    for i in 0..usize::MAX {
-        let found = rt.arg(i, &mut []);
-        if matches!(found, Err(FillError::NotPresent)) {
-            break;
-        }
-        count = i + 1;
-    }
-    count
+    (0..usize::MAX)
+        .find(|i| matches!(rt.arg(*i, &mut []), Err(FillError::NotPresent)))
+        .unwrap_or(usize::MAX)
 }
 
 // Opens a file for reading.
 fn open(rt: &HostRuntime, path: &[u8]) -> io::Result<File> {
-    match str::from_utf8(path) {
-        Ok(name) => File::open(rt, name),
-        Err(_) => Err(io::Error::from_raw_os_error(NOT_TEXT)),
-    }
+    let name = str::from_utf8(path).map_err(|_| io::Error::from_raw_os_error(NOT_TEXT))?;
+    File::open(rt, name)
 }
 
-// Answers standard input by an open file; path is its name, for a message.
-fn answer(rt: &HostRuntime, file: &mut File, path: &[u8], people: bool, air: Air) {
+// Answers standard input by an open file; path is its name.
+fn answer<'a>(
+    rt: &HostRuntime,
+    file: &mut File,
+    path: &'a [u8],
+    command: Command,
+) -> Result<(), Failure<'a>> {
     let mut front = [0u8; FILE_KEPT];
-    let contents = read_file(file, &mut front);
-    if let Some(error) = contents.error {
-        fail(rt, path, error);
-        return;
-    }
+    let length = read_file(file, &mut front).map_err(|error| Failure::Of(path, error))?;
     let mut input = [0u8; LINE_KEPT];
-    let line = read_line(&mut rt.stdin(), &mut input);
-    if let Some(error) = line.error {
-        fail(rt, b"standard input", error);
-        return;
-    }
-    let length = contents.read.length;
-    let end = line.read.length;
-    let mut out = [0u8; ANSWER_ROOM];
-    let n = print_answer(&front[..length], &input[..end], people, air, &mut out);
-    if let Err(error) = rt.write_all(&out[..n]) {
-        fail(rt, b"standard output", error);
-    }
+    let end = read_line(&mut rt.stdin(), &mut input).map_err(|error| Failure::Of(
+        b"standard input",
+        error,
+    ))?;
+    let mut out = Answer::new();
+    print_answer(&front[..length], &input[..end], command, &mut out);
+    rt.write_all(&out)
+        .map_err(|error| Failure::Of(b"standard output", error))
 }
 
 // Opens the file that the second word names, and answers by it.
-fn run(rt: &HostRuntime, people: bool, air: Air) {
-    let mut path = [0u8; WORD_KEPT];
-    let length = match word(rt, 1, &mut path) {
-        Ok(length) => length,
-        Err(error) => {
-            fail(rt, b"FILE", error);
-            return;
-        }
-    };
-    let mut file = match open(rt, &path[..length]) {
-        Ok(file) => file,
-        Err(error) => {
-            fail(rt, &path[..length], error);
-            return;
-        }
-    };
+fn run<'a>(
+    rt: &HostRuntime,
+    command: Command,
+    room: &'a mut [u8; WORD_KEPT],
+) -> Result<(), Failure<'a>> {
+    let path = word(rt, 1, room).map_err(|error| Failure::Of(b"FILE", error))?;
+    let mut file = open(rt, path).map_err(|error| Failure::Of(path, error))?;
     // a file gets the number of standard input only where that is closed
     if file.as_raw_fd() == 0 {
-        let _ = eprintln!(rt; "places: standard input: closed");
-        return;
+        return Err(Failure::Closed);
     }
-    answer(rt, &mut file, &path[..length], people, air);
-}
-
-fn usage(rt: &HostRuntime) {
-    let _ = eprintln!(rt; "usage: places FILE [sexagesimal] [PRESSURE TEMPERATURE]");
+    answer(rt, &mut file, path, command)
 }
 
 fn main(rt: HostRuntime) {
     let words = word_count(&rt);
     let mut third = [0u8; WORD_KEPT];
-    let third_end = word_or_none(&rt, 2, &mut third);
     let mut fourth = [0u8; WORD_KEPT];
-    let fourth_end = word_or_none(&rt, 3, &mut fourth);
     let mut fifth = [0u8; WORD_KEPT];
-    let fifth_end = word_or_none(&rt, 4, &mut fifth);
     let command = command_of(
         words,
-        &third[..third_end],
-        &fourth[..fourth_end],
-        &fifth[..fifth_end],
+        word(&rt, 2, &mut third).unwrap_or(&[]),
+        word(&rt, 3, &mut fourth).unwrap_or(&[]),
+        word(&rt, 4, &mut fifth).unwrap_or(&[]),
     );
-    match command {
-        Command::For(people, air) => run(&rt, people, air),
-        Command::Other => usage(&rt),
+    let mut path = [0u8; WORD_KEPT];
+    let done = match command {
+        Some(command) => run(&rt, command, &mut path),
+        None => Err(Failure::Usage),
+    };
+    if let Err(failure) = done {
+        say(&rt, failure);
     }
 }

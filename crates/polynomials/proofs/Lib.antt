@@ -1,3 +1,3 @@
 -- What the proofs share, of every function of an instant.
 pub mod Held
-pub mod Tested
+pub mod HandedOn

@@ -7,6 +7,8 @@ ghost use Rattle.std.specs.Prelude.{◌≡◌, [], ◌∷◌};
 ghost use Rattle.rules.specs.Polynomials.{instant_refused, times_t_plus, polynomial};
 ghost use Rattle.polynomials.specs.Fits.{StepFits, PolynomialFits};
 
+pub mod range;
+
 use rounding::{rnd_product_quotient, rnd_quotient};
 use units::CENTURY;
 
@@ -20,6 +22,10 @@ fn times_t_plus(t: i64, p: i64, next: i64) -> i64
 
 // A polynomial of two coefficients. Every polynomial begins here: the product of its highest
 // coefficient fits the word, and is not carried in parts.
+//
+// One function over an array of N would be no plainer: it would ask for two coefficients at least,
+// take the two highest by their places from the end, and say in a loop's invariant what `quadratic`
+// and `cubic` say by a call of the one before.
 pub fn linear(t: i64, c0: i64, c1: i64) -> i64
     requires { PolynomialFits t (c0 ∷ c1 ∷ []) }
     ensures { result ≡ polynomial (c0 ∷ c1 ∷ []) t }

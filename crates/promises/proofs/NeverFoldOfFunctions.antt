@@ -1,6 +1,6 @@
 -- Change C-22 of the functions themselves, by what their contracts tell of two calls: `instants::instants` of two UTC
 -- times, and `utc::utc_of_tt` before or after it. `turbelicus_utc` gives the same numbers to C.
-use Rattle.std.specs.Prelude.{◌≡◌}
+use Rattle.std.specs.Prelude.{◌≡◌, Ok}
 use Rattle.std.proofs.Common.{◌∙◌}
 use Rattle.std.proofs.Math.Path.{ap}
 use seplogic.Ra.Ura.{Ura}
@@ -9,7 +9,6 @@ use prog.Memory.{Memory}
 use prog.Routine.{Routine}
 use types.Logic.{Logic}
 use contract.Monad.{Fun}
-use Rattle.rules.specs.declared.Clocked.{Clocked}
 use Rattle.rules.specs.Refusals.{given}
 use Rattle.rules.specs.Answers.{clocked_answer}
 use Rattle.answers.specs.Given.{tt_of}
@@ -24,7 +23,7 @@ module _ {M : Type 1} {𝓤 : Ura M} (𝓛 : Logic 𝓤) (mem : Memory → SProp
   -- the one UTC time that it comes from
   pub utc_of_tt_one : Tells 𝓤 utc_of_tt_lem.ended (utc_of_tt_lem.clauses 𝓛 mem run)
       (λ κs passed a x. (h : rules.InStretch passed.0)
-      → a ≡ Clocked.At (rules.from_exactly_one passed.0 h).utc)
+      → a ≡ Ok (rules.from_exactly_one passed.0 h).utc)
   utc_of_tt_one κs passed g a x = so_told 𝓤 (id⊢ 𝓤 _)
       (λ e h. e ∙ (rules.from_exactly_one passed.0 h).answered)
 

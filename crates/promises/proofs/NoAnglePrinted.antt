@@ -1,6 +1,5 @@
 -- Change C-12 in what `places` prints: a dash where a place has no angle, and there alone.
-use Rattle.std.specs.Prelude.{◌≡◌, refl, Bool, true, false, cond, List, ◌++◌, ℕ, eqb, ℤ, nat_abs}
-use Rattle.rules.specs.declared.Read.{Read}
+use Rattle.std.specs.Prelude.{◌≡◌, refl, Bool, true, false, cond, List, ◌++◌, ℕ, eqb, ℤ, nat_abs, Ok, Some, None}
 use Rattle.rules.specs.declared.Moment.{Moment}
 use Rattle.rules.specs.declared.Star.{Star}
 use Rattle.rules.specs.declared.Site.{Site}
@@ -8,7 +7,6 @@ use Rattle.rules.specs.declared.Place.{Place}
 use Rattle.rules.specs.declared.Angles.{Angles}
 use Rattle.rules.specs.declared.Entry.{Entry}
 use Rattle.rules.specs.declared.Night.{Night}
-use Rattle.rules.specs.declared.Prepared.{Prepared}
 use Rattle.rules.specs.Units.{quarter}
 use Rattle.rules.specs.Night.{night_of}
 use Rattle.rules.specs.Stars.{star_refused}
@@ -26,7 +24,7 @@ shown_beside : (text : ℤ → List ℕ) (height a : ℤ) → or_dash height (te
 unfolding or_dash read_beside
 shown_beside text height a = by (eqb (nat_abs height) quarter)
   where
-    by : (b : Bool) → cond b dash (text a) ≡ shown text (cond b Read.NoAngle (Read.Angle a))
+    by : (b : Bool) → cond b dash (text a) ≡ shown text (cond b None (Some a))
     by true = refl
     by false = refl
 
@@ -54,7 +52,7 @@ people_of a p e = rw (
 
 -- of a star that is accepted, in every night that is made ready: a dash where the place has no angle, and there alone,
 -- in µas and for people
-module _ (m : Moment) (site : Site) (n : Night) (s : Star) (ready : night_of m site ≡ Prepared.For n)
+module _ (m : Moment) (site : Site) (n : Night) (s : Star) (ready : night_of m site ≡ Ok n)
     (h : star_refused s ≡ false) where
   abbrev entry : Entry
   entry = worked n (fresh_entry s)

@@ -1,8 +1,7 @@
 -- The programs `times` and `dates` to the byte, of the functions themselves. Each begins by `line_reads::begin`, hands
--- each read of its input to `line_reads::answer_read` with the start that the call before it answered, and writes the
--- front of the room after each call, as many bytes as the call answered. What the contracts tell of these calls entails
--- that all that is written is what the program prints for all that is read, wherever the reads are cut, and that no
--- answer waits for another line.
+-- each read of its input to `line_reads::answer_read` with the start that the call before it answered, and writes what
+-- stands in the room after each call. What the contracts tell of these calls entails that all that is written is what the
+-- program prints for all that is read, wherever the reads are cut, and that no answer waits for another line.
 use Rattle.std.specs.Prelude.{◌≡◌, ℕ}
 use Rattle.std.proofs.Math.Path.{refl, ap}
 use Rattle.std.proofs.Common.{◌∙◌}
@@ -14,12 +13,11 @@ use prog.Routine.{Routine}
 use types.Logic.{Logic}
 use contract.Monad.{Fun, fact}
 use denote.Triple.Clauses.{Clauses}
-use Rattle.rules.specs.Times.{newline, overlaid}
+use Rattle.rules.specs.Times.{newline}
 use Rattle.line_reads.specs.declared.Program.{Program}
-use Rattle.line_reads.specs.declared.Start.{Start}
-use Rattle.line_reads.specs.Reads.{header_line, printed_by, none, answers_of, start_of_next, after_read, begun}
+use Rattle.line_reads.specs.declared.starts.Start.{Start}
+use Rattle.line_reads.specs.Reads.{header_line, printed_by, none, answers_of, start_of_next}
 use Rattle.line_reads.specs.Inputs.{ToTheEnd, GoingOn, answers_of_all}
-use Rattle.laws.specs.PuttingBytes.{front_of}
 use Rattle.line_reads.proofs.Cuts.{printed_of_reads, printed_so_far}
 use Rattle.promises.specs.OfContracts.{so_told, together}
 use Rattle.promises.specs.Calls.{Each, all_tell}
@@ -57,23 +55,13 @@ module _ {M : Type 1} {𝓤 : Ura M} (𝓛 : Logic 𝓤) (mem : Memory → SProp
   abbrev told_of_all : BeginCall → List ReadCall → SProp 𝓤
   told_of_all = stated.told_of_all 𝓛 mem run
 
-  first_written : (b : BeginCall)
-      → (b.answer ≡ begun b.passed.0)
-      × (b.exit.1.0.now ≡ overlaid (header_line b.passed.0) b.passed.1.0.now)
-      → written_first b ≡ header_line b.passed.0
-  first_written b e = rw (e.0, e.1) (front_of (header_line b.passed.0) _)
-
   -- the answers to what a call is passed
   abbrev answers_by : ReadCall → List ℕ
   answers_by c = answers_of c.passed.0 c.passed.1.0 (read_by c)
 
   -- they stand in the room, and the start is handed on
   abbrev Follows : ReadCall → Type 0
-  Follows c = (c.answer ≡ after_read c.passed.0 c.passed.1.0 (read_by c))
-      × (c.exit.1.1.1.1.0.now ≡ overlaid (answers_by c) c.passed.1.1.1.1.0.now)
-
-  call_written : (c : ReadCall) → Follows c → written_by c ≡ answers_by c
-  call_written c e = rw (e.0, e.1) (front_of (answers_by c) _)
+  Follows c = (c.answer ≡ start_of_next c.passed.1.0 (read_by c)) × (written_by c ≡ answers_by c)
 
   all_written : (p : Program) (s : Start) (cs : List ReadCall) → Chained p s cs → Each Follows cs
       → flatten (map written_by cs) ≡ answers_of_all p s (map read_by cs)
@@ -81,11 +69,11 @@ module _ {M : Type 1} {𝓤 : Ura M} (𝓛 : Logic 𝓤) (mem : Memory → SProp
   all_written p s [] chain fs = refl
   all_written p s (c ∷ cs) chain fs =
       let w : written_by c ≡ answers_of p s (read_by c) =
-      call_written c fs.0 ∙ ap (λ p. answers_of p c.passed.1.0 (read_by c)) chain.0
+      fs.0.1 ∙ ap (λ p. answers_of p c.passed.1.0 (read_by c)) chain.0
       ∙ ap (λ s. answers_of p s (read_by c)) chain.1.0 in
-      let n : c.answer.start ≡ start_of_next s (read_by c) =
-      ap (λ after. after.start) fs.0.0 ∙ ap (λ s. start_of_next s (read_by c)) chain.1.0 in
-      let rest = all_written p c.answer.start cs chain.1.1 fs.1 in
+      let n : c.answer ≡ start_of_next s (read_by c) =
+      fs.0.0 ∙ ap (λ s. start_of_next s (read_by c)) chain.1.0 in
+      let rest = all_written p c.answer cs chain.1.1 fs.1 in
       cc
 
   -- what is written in all, by what the contracts tell
@@ -94,9 +82,9 @@ module _ {M : Type 1} {𝓤 : Ura M} (𝓛 : Logic 𝓤) (mem : Memory → SProp
   written_in_all_lem p b cs calls =
       together 𝓤 ((stated.begin_answers 𝓛 mem run) b.lifetimes b.passed b.ghost b.answer b.exit)
       (all_tell 𝓤 answer_read.ended read_contract (stated.answer_read_answers 𝓛 mem run) cs) (λ e fs.
-      let w = first_written b e ∙ ap header_line calls.0 in
-      let n : b.answer.start ≡ none = ap (λ after. after.start) e.0 in
-      let ws = all_written p b.answer.start cs calls.1 fs in
+      let w = e.1 ∙ ap header_line calls.0 in
+      let n : b.answer ≡ none = e.0 in
+      let ws = all_written p b.answer cs calls.1 fs in
       cc)
 
   -- to the end of the input: all that is written is what the program prints for all that is read

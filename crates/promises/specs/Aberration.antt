@@ -1,6 +1,6 @@
 -- Change C-14 in full: step 4 with the eccentricity of the Earth's orbit, how large what it adds may be, and that no
 -- direction comes near nought by it. That ϖ lies within 2 µas of its exact value is in `Demand2`.
-use Rattle.std.specs.Prelude.{◌≡◌, refl, [], ◌∷◌, ◌*◌, ◌≤◌, ℤ, pos, neg_ℤ, nat_abs, ◌+ℤ◌, ◌-ℤ◌, ◌*ℤ◌}
+use Rattle.std.specs.Prelude.{◌≡◌, refl, [], ◌∷◌, ◌*◌, ◌≤◌, ℤ, pos, neg_ℤ, nat_abs, ◌+ℤ◌, ◌-ℤ◌, ◌*ℤ◌, Ok}
 use Rattle.integers.specs.Size.{abs_neg}
 use Rattle.integers.specs.Ring.{ring, v0, v1, neg, ◌⊕◌, ◌⊖◌}
 use Rattle.rules.specs.declared.Ut.{Ut}
@@ -10,7 +10,6 @@ use Rattle.rules.specs.declared.Direction.{Direction}
 use Rattle.rules.specs.declared.Moment.{Moment}
 use Rattle.rules.specs.declared.Site.{Site}
 use Rattle.rules.specs.declared.Night.{Night}
-use Rattle.rules.specs.declared.Prepared.{Prepared}
 use Rattle.rules.specs.Units.{unit}
 use Rattle.rules.specs.Rounding.{rnd}
 use Rattle.rules.specs.Length.{root, squares}
@@ -82,11 +81,11 @@ by_from_the_circle a b =
 -- ---- no direction comes near nought
 
 -- in every night that is made ready, the length of an accepted direction and what is added is at least 15/16 of 2^30
-pub far_from_nought : (m : Moment) (site : Site) (n : Night) (v : Direction) → night_of m site ≡ Prepared.For n
+pub far_from_nought : (m : Moment) (site : Site) (n : Night) (v : Direction) → night_of m site ≡ Ok n
     → Accepted (squares v) → 15 * unit ≤ 16 * root (squares (plus v n.aberration))
 far_from_nought m site n v e h = plus_root_ge v n.aberration h (ready_fits m site n e).aberration
 
 -- and brought to length it is accepted again
-pub still_accepted : (m : Moment) (site : Site) (n : Night) (v : Direction) → night_of m site ≡ Prepared.For n
+pub still_accepted : (m : Moment) (site : Site) (n : Night) (v : Direction) → night_of m site ≡ Ok n
     → Accepted (squares v) → Accepted (squares (aberrated n v))
 still_accepted m site n v e h = aberrated_accepted n (ready_fits m site n e) v h

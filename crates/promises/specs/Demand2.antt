@@ -2,7 +2,7 @@
 -- series; and what 01 promises of a reading and of the ranges of a place. `Demand2OfFunctions` has it of the functions.
 -- That every rule is followed to the last unit is each function's own contract, an equality with the rule: `ByContract`
 -- and `ByContractForC`.
-use Rattle.std.specs.Prelude.{◌≡◌, List, suc, ◌+◌, ◌-◌, ◌*◌, ◌≤◌, ◌^◌, length, ℤ, pos, negsuc, nat_abs, ◌+ℤ◌, ◌-ℤ◌, ◌*ℤ◌, ◌<ℤ◌, ◌≤ℤ◌}
+use Rattle.std.specs.Prelude.{◌≡◌, List, suc, ◌+◌, ◌-◌, ◌*◌, ◌≤◌, ◌^◌, length, ℤ, pos, negsuc, nat_abs, ◌+ℤ◌, ◌-ℤ◌, ◌*ℤ◌, ◌<ℤ◌, ◌≤ℤ◌, Ok, Some}
 use Rattle.std.proofs.Common.{arith, lit≤, le→leb}
 use Rattle.std.specs.Int.Signed.{le_z_yes, lt_z_yes}
 use Rattle.rules.specs.declared.Ut.{Ut}
@@ -11,9 +11,7 @@ use Rattle.rules.specs.declared.Moment.{Moment}
 use Rattle.rules.specs.declared.Star.{Star}
 use Rattle.rules.specs.declared.Site.{Site}
 use Rattle.rules.specs.declared.Term.{Term}
-use Rattle.rules.specs.declared.Read.{Read}
 use Rattle.rules.specs.declared.Place.{Place}
-use Rattle.rules.specs.declared.Placed.{Placed}
 use Rattle.rules.specs.Units.{circle, quarter, century, unit}
 use Rattle.rules.specs.Circle.{pair}
 use Rattle.rules.specs.Series.{whole, radian, series}
@@ -107,11 +105,11 @@ sine_within_4 a = (pair_near a).sine
 -- ---- readings
 
 -- of every reading that has an angle
-pub reading_across : (h v a : ℤ) → reading h v ≡ Read.Angle a
+pub reading_across : (h v a : ℤ) → reading h v ≡ Some a
     → nat_abs ((pair a).cosine *ℤ v -ℤ (pair a).sine *ℤ h) ≤ 8 * (nat_abs h + nat_abs v)
 reading_across h v a e = (reading_reads h v a e).across
 
-pub reading_along : (h v a : ℤ) → reading h v ≡ Read.Angle a → pos 0 <ℤ ((pair a).cosine *ℤ h +ℤ (pair a).sine *ℤ v)
+pub reading_along : (h v a : ℤ) → reading h v ≡ Some a → pos 0 <ℤ ((pair a).cosine *ℤ h +ℤ (pair a).sine *ℤ v)
 reading_along h v a e = (reading_reads h v a e).along
 
 -- ---- places
@@ -123,9 +121,9 @@ OnCircle a = (pos 0 ≤ℤ a) × (a <ℤ pos circle)
 -- right ascension and azimuth, where there is one, are 0 to C − 1, declination and altitude between minus and plus a
 -- quarter
 pub record PlaceInRange (p : Place) : Type 0 where
-  pub ra : (a : ℤ) → p.ra ≡ Read.Angle a → OnCircle a
+  pub ra : (a : ℤ) → p.ra ≡ Some a → OnCircle a
   pub declination : nat_abs p.declination ≤ quarter
-  pub azimuth : (a : ℤ) → p.azimuth ≡ Read.Angle a → OnCircle a
+  pub azimuth : (a : ℤ) → p.azimuth ≡ Some a → OnCircle a
   pub altitude : nat_abs p.altitude ≤ quarter
 
 on_circle : (a : ℤ) → UpTo a (circle - 1) → OnCircle a
@@ -133,7 +131,7 @@ on_circle (pos n) h = (le_z_yes (le→leb 0 n (omega arith)), lt_z_yes (le→leb
 on_circle (negsuc n) h = absurd (omega (arith, h.low))
 
 -- of every place that is answered
-pub place_in_range : (m : Moment) (star : Star) (site : Site) (p : Place) → place m star site ≡ Placed.At p
+pub place_in_range : (m : Moment) (star : Star) (site : Site) (p : Place) → place m star site ≡ Ok p
     → PlaceInRange p
 place_in_range m star site p e =
     let g = place_ranges m star site p e in

@@ -1,6 +1,6 @@
 -- Demand 2 of the answers at an instant: whatever is answered but a refusal, each polynomial in it lies within 2 µas of
 -- its exact value at that instant. Where an answer is made of several, a record gives them, and how it is made.
-use Rattle.std.specs.Prelude.{◌≡◌, refl, Bool, true, false, cond, map, ℕ, ℤ, pos, ◌+ℤ◌, ◌*ℤ◌}
+use Rattle.std.specs.Prelude.{◌≡◌, refl, Bool, true, false, cond, map, ℕ, ℤ, pos, ◌+ℤ◌, ◌*ℤ◌, Ok, Err}
 use Rattle.std.proofs.Common.{sym, ap, subst, arith, lit≤}
 use Rattle.rules.specs.declared.Ut.{Ut}
 use Rattle.rules.specs.declared.Tt.{Tt}
@@ -9,10 +9,6 @@ use Rattle.rules.specs.declared.Term.{Term}
 use Rattle.rules.specs.declared.Precession.{Precession}
 use Rattle.rules.specs.declared.Arguments.{Arguments}
 use Rattle.rules.specs.declared.Nutation.{Nutation}
-use Rattle.rules.specs.declared.Angle.{Angle}
-use Rattle.rules.specs.declared.Precessed.{Precessed}
-use Rattle.rules.specs.declared.FiveArguments.{FiveArguments}
-use Rattle.rules.specs.declared.Nutated.{Nutated}
 use Rattle.rules.specs.Units.{circle, day, unit}
 use Rattle.rules.specs.Rounding.{rnd, modulo}
 use Rattle.rules.specs.Circle.{pair}
@@ -38,9 +34,9 @@ answered given refused t b c apart one e = by (instant_refused t) refl e
     by true i e = absurd (apart e)
     by false i e = (one e, in_range_lem t i)
 
-answered_angle : (t a b : ℤ) → angle_at t a ≡ Angle.Of b → (a ≡ b) × InRange t
+answered_angle : (t a b : ℤ) → angle_at t a ≡ Ok b → (a ≡ b) × InRange t
 unfolding angle_at
-answered_angle t a b e = answered Angle.Of (Angle.Refused Refusal.Instant) t a b
+answered_angle t a b e = answered Ok (Err Refusal.Instant) t a b
     (λ e. let z : ◌≡◌ {A = ℕ} 0 1 = cc in omega arith) (λ e. cc) e
 
 -- ---- precession and the mean obliquity
@@ -51,11 +47,11 @@ pub record PrecessionWithin2 (t : Tt) (p : Precession) : Type 0 where
   pub theta : Within2 p.theta theta_row t.0
 
 -- as three facts, from which the record is made
-pub precession_polynomials : (t : Tt) (p : Precession) → precession_at t ≡ Precessed.By p
+pub precession_polynomials : (t : Tt) (p : Precession) → precession_at t ≡ Ok p
     → Within2 p.zeta zeta_row t.0 × Within2 p.z z_row t.0 × Within2 p.theta theta_row t.0
 unfolding precession_at precession
 precession_polynomials t p e =
-    let a = answered Precessed.By (Precessed.Refused Refusal.Instant) t.0 (precession t) p
+    let a = answered Ok (Err Refusal.Instant) t.0 (precession t) p
     (λ e. let z : ◌≡◌ {A = ℕ} 0 1 = cc in omega arith) (λ e. cc) e in
     subst (λ p. Within2 p.zeta zeta_row t.0 × Within2 p.z z_row t.0 × Within2 p.theta theta_row t.0) a.0 (
       polynomial_within_2 zeta_row t.0 (lit≤ tt) a.1,
@@ -63,12 +59,12 @@ precession_polynomials t p e =
       polynomial_within_2 theta_row t.0 (lit≤ tt) a.1,
     )
 
-pub precession_within_2 : (t : Tt) (p : Precession) → precession_at t ≡ Precessed.By p → PrecessionWithin2 t p
+pub precession_within_2 : (t : Tt) (p : Precession) → precession_at t ≡ Ok p → PrecessionWithin2 t p
 precession_within_2 t p e =
     let n = precession_polynomials t p e in
     record { zeta = n.0; z = n.1; theta = n.2 }
 
-pub obliquity_within_2 : (t : Tt) (a : ℤ) → obliquity_at t ≡ Angle.Of a → Within2 a obliquity_row t.0
+pub obliquity_within_2 : (t : Tt) (a : ℤ) → obliquity_at t ≡ Ok a → Within2 a obliquity_row t.0
 unfolding obliquity_at obliquity
 obliquity_within_2 t a e =
     let b = answered_angle t.0 (obliquity t) a e in
@@ -93,10 +89,10 @@ rule_arguments t h = record {
   node = polynomial_within_2 node_row t.0 (lit≤ tt) h;
 }
 
-pub arguments_within_2 : (t : Tt) (a : Arguments) → arguments_at t ≡ FiveArguments.By a → ArgumentsWithin2 t a
+pub arguments_within_2 : (t : Tt) (a : Arguments) → arguments_at t ≡ Ok a → ArgumentsWithin2 t a
 unfolding arguments_at
 arguments_within_2 t a e =
-    let b = answered FiveArguments.By (FiveArguments.Refused Refusal.Instant) t.0 (arguments t) a
+    let b = answered Ok (Err Refusal.Instant) t.0 (arguments t) a
     (λ e. let z : ◌≡◌ {A = ℕ} 0 1 = cc in omega arith) (λ e. cc) e in
     subst (ArgumentsWithin2 t) b.0 (rule_arguments t b.1)
 
@@ -117,7 +113,7 @@ pub record SunWithin2 (t : Tt) (a : ℤ) : Type 0 where
   pub made : a ≡ mean_longitude_lem +ℤ rnd (first *ℤ (pair (pos 1 *ℤ sun)).sine +ℤ second *ℤ (pair (pos 2 *ℤ sun)).sine
       +ℤ third *ℤ (pair (pos 3 *ℤ sun)).sine) unit
 
-pub sun_within_2 : (t : Tt) (a : ℤ) → sun_longitude_at t ≡ Angle.Of a → SunWithin2 t a
+pub sun_within_2 : (t : Tt) (a : ℤ) → sun_longitude_at t ≡ Ok a → SunWithin2 t a
 unfolding sun_longitude_at sun_longitude mean_longitude centre centre_sum centre_product
 sun_within_2 t a e =
     let b = answered_angle t.0 (sun_longitude t) a e in
@@ -138,7 +134,7 @@ sun_within_2 t a e =
 
 -- ---- the longitude of perihelion
 
-pub perihelion_within_2 : (t : Tt) (a : ℤ) → perihelion_at t ≡ Angle.Of a → Within2 a perihelion_row t.0
+pub perihelion_within_2 : (t : Tt) (a : ℤ) → perihelion_at t ≡ Ok a → Within2 a perihelion_row t.0
 unfolding perihelion_at perihelion
 perihelion_within_2 t a e =
     let b = answered_angle t.0 (perihelion t) a e in
@@ -152,7 +148,7 @@ pub record SiderealWithin2 (t : Ut) (a : ℤ) : Type 0 where
   pub alone_near : Within2 alone sidereal_row t.0
   pub made : a ≡ pos (modulo (alone +ℤ pos 15000 *ℤ pos (modulo t.0 day)) circle)
 
-pub sidereal_within_2 : (t : Ut) (a : ℤ) → sidereal_at t ≡ Angle.Of a → SiderealWithin2 t a
+pub sidereal_within_2 : (t : Ut) (a : ℤ) → sidereal_at t ≡ Ok a → SiderealWithin2 t a
 unfolding sidereal_at sidereal sidereal_polynomial
 sidereal_within_2 t a e =
     let b = answered_angle t.0 (sidereal t) a e in
@@ -173,10 +169,10 @@ pub record NutationWithin2 (t : Tt) (n : Nutation) : Type 0 where
   pub obliquity_made : n.obliquity
       ≡ rnd (total (map (λ m. obliquity m *ℤ (pair (term_angle arguments m)).cosine) terms)) unit
 
-pub nutation_within_2 : (t : Tt) (n : Nutation) → nutation_at t ≡ Nutated.By n → NutationWithin2 t n
+pub nutation_within_2 : (t : Tt) (n : Nutation) → nutation_at t ≡ Ok n → NutationWithin2 t n
 unfolding nutation_at nutation nutation_by longitude_product obliquity_product
 nutation_within_2 t n e =
-    let a = answered Nutated.By (Nutated.Refused Refusal.Instant) t.0 (nutation t) n
+    let a = answered Ok (Err Refusal.Instant) t.0 (nutation t) n
     (λ e. let z : ◌≡◌ {A = ℕ} 0 1 = cc in omega arith) (λ e. cc) e in
     record {
       arguments = arguments t;

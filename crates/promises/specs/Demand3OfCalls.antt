@@ -2,7 +2,7 @@
 -- is passed an accepted direction and each next what the call before it answered, by accepted turns out and by the
 -- opposite ones in reverse order back. What the contract tells of these calls entails that every answer is a direction
 -- of accepted length, and that the last leads back.
-use Rattle.std.specs.Prelude.{◌≡◌, refl, List, [], ◌∷◌, ◌++◌, ◌*◌, ◌≤◌, length, pos}
+use Rattle.std.specs.Prelude.{◌≡◌, refl, List, [], ◌∷◌, ◌++◌, ◌*◌, ◌≤◌, length, pos, Result, Ok, Err}
 use Rattle.std.proofs.Common.{ap, ◌∙◌, le_trans, arith}
 use seplogic.Ra.Ura.{Ura}
 use base.Logic.{SProp, ent, id⊢}
@@ -11,7 +11,6 @@ use prog.Routine.{Routine}
 use types.Logic.{Logic}
 use contract.Monad.{Fun, fact}
 use Rattle.rules.specs.declared.Direction.{Direction}
-use Rattle.rules.specs.declared.Turned.{Turned}
 use Rattle.rules.specs.Refusals.{given}
 use Rattle.rules.specs.Answers.{turned_answer}
 use Rattle.rules.specs.Length.{squares}
@@ -28,6 +27,7 @@ use Rattle.promises.specs.ByContract.{turn_contract}
 use Rattle.promises.specs.ByContractForC.{turbelicus_turn_contract}
 use Rattle.turning.specs.contracts.turn as turn
 use Rattle.module.specs.contracts.turns.turbelicus_turn as turbelicus_turn
+use Rattle.rules.specs.declared.Refusal.{Refusal}
 
 -- ---- chains of calls, in either form
 
@@ -61,18 +61,18 @@ module _ {C : Type 0} (form : Form C) where
 
   -- what the rule answers is handed on and kept
   abbrev Follows : C → Type 0
-  Follows c = (w : Direction) → turned (form.turn c).axis (form.turn c).angle (form.from c) ≡ Turned.To w
+  Follows c = (w : Direction) → turned (form.turn c).axis (form.turn c).angle (form.from c) ≡ Ok w
       → Accepted (squares w) → (form.to c ≡ w) × form.Kept c
 
   followed : (ts : List Turn) → AcceptedTurns ts → (v : Direction) → Accepted (squares v) → (cs : List C)
       → Chained v ts cs → Each Follows cs
-      → Each form.Kept cs × (turned_by ts (Turned.To v) ≡ Turned.To (arrived v cs))
+      → Each form.Kept cs × (turned_by ts (Ok v) ≡ Ok (arrived v cs))
   followed [] none v h [] chain fs = (tt, refl)
   followed [] none v h (c ∷ cs) chain fs = absurd chain
   followed (t ∷ ts) (more k ks) v h [] chain fs = absurd chain
   followed (t ∷ ts) (more k ks) v h (c ∷ cs) chain fs =
       let a = turned_by_accepted (t ∷ []) (more k none) v h in
-      let rule : turned (form.turn c).axis (form.turn c).angle (form.from c) ≡ Turned.To a.direction =
+      let rule : turned (form.turn c).axis (form.turn c).angle (form.from c) ≡ Ok a.direction =
       rw (chain.0, chain.1) a.answer in
       let given = fs.0 a.direction rule a.holds in
       let rest = followed ts ks a.direction a.holds cs (rw given.0 at chain.2) fs.1 in
@@ -96,9 +96,9 @@ module _ {C : Type 0} (form : Form C) where
 -- ---- turning::turn
 
 -- the direction of an answer; noughts where it is refused
-abbrev pub direction_in : Turned → Direction
-direction_in (Turned.To w) = w
-direction_in (Turned.Refused r) = direction_of (pos 0) (pos 0) (pos 0)
+abbrev pub direction_in : Result Direction Refusal → Direction
+direction_in (Ok w) = w
+direction_in (Err r) = direction_of (pos 0) (pos 0) (pos 0)
 
 module _ {M : Type 1} {𝓤 : Ura M} (𝓛 : Logic 𝓤) (mem : Memory → SProp 𝓤) (run : Routine → Fun 𝓤) where
   abbrev pub TurnCall : Type 0
@@ -119,7 +119,7 @@ module _ {M : Type 1} {𝓤 : Ura M} (𝓛 : Logic 𝓤) (mem : Memory → SProp
       so_told 𝓤 (all_tell 𝓤 turn.ended (turn_contract 𝓛 mem run) follows cs) (led_back turn_form v h ts ks l cs chain)
     where
       follows : Tells 𝓤 turn.ended (turn_contract 𝓛 mem run) (λ κs passed a x. (w : Direction)
-          → turned passed.1.0 passed.1.1.0 passed.0 ≡ Turned.To w → Accepted (squares w)
+          → turned passed.1.0 passed.1.1.0 passed.0 ≡ Ok w → Accepted (squares w)
           → (direction_in a ≡ w) × Answers (λ w. Accepted (squares w)) a)
       follows κs passed g a x = so_told 𝓤 (id⊢ 𝓤 _) (λ e w r k.
           (ap direction_in (e ∙ r), record { direction = w; answer = e ∙ r; holds = k }))
@@ -135,7 +135,7 @@ pub record Got (a : TurbelicusTurned) : Type 0 where
   pub answered : a.refused ≡ pos 0
   pub accepted : Accepted (squares (direction_got a))
 
-got_of : (a : TurbelicusTurned) (t : Turned) (w : Direction) → a ≡ turned_out (turned_answer t) → t ≡ Turned.To w
+got_of : (a : TurbelicusTurned) (t : Result Direction Refusal) (w : Direction) → a ≡ turned_out (turned_answer t) → t ≡ Ok w
     → Accepted (squares w) → (direction_got a ≡ w) × Got a
 unfolding turned_out turned_answer given
 got_of a t w e r k =
@@ -165,7 +165,7 @@ module _ {M : Type 1} {𝓤 : Ura M} (𝓛 : Logic 𝓤) (mem : Memory → SProp
     where
       follows : Tells 𝓤 turbelicus_turn.ended (turbelicus_turn_contract 𝓛 mem run) (λ κs passed a x. (w : Direction)
           → turned passed.1.1.1.0 passed.1.1.1.1.0
-          (direction_of passed.0 passed.1.0 passed.1.1.0) ≡ Turned.To w → Accepted (squares w)
+          (direction_of passed.0 passed.1.0 passed.1.1.0) ≡ Ok w → Accepted (squares w)
           → (direction_got a ≡ w) × Got a)
       follows κs passed g a x = so_told 𝓤 (id⊢ 𝓤 _) (λ e w r k.
           got_of a _ w e r k)

@@ -1,6 +1,6 @@
 -- Change C-12 of the functions themselves, by their contracts: whatever is passed, an angle is missing exactly where
 -- `NoAngle` says, and what C gets has the flag 1, or 0 with nought beside it.
-use Rattle.std.specs.Prelude.{◌≡◌, refl, ◌⊎◌, ◌↔◌, ℤ, pos, nat_abs}
+use Rattle.std.specs.Prelude.{◌≡◌, refl, ◌⊎◌, ◌↔◌, ℤ, pos, nat_abs, Result, Ok, Err, Option, Some, None}
 use Rattle.std.proofs.Common.{sym, ap, ◌∙◌, inl, inr, arith}
 use seplogic.Ra.Ura.{Ura}
 use base.Logic.{SProp, id⊢}
@@ -10,14 +10,12 @@ use types.Logic.{Logic}
 use contract.Monad.{Fun}
 use Rattle.rules.specs.declared.Ut.{Ut}
 use Rattle.rules.specs.declared.Tt.{Tt}
-use Rattle.rules.specs.declared.Read.{Read}
 use Rattle.rules.specs.declared.Moment.{Moment}
 use Rattle.rules.specs.declared.Star.{Star}
 use Rattle.rules.specs.declared.Site.{Site}
 use Rattle.rules.specs.declared.Place.{Place}
 use Rattle.rules.specs.declared.Weather.{Weather}
 use Rattle.rules.specs.declared.Instants.{Instants}
-use Rattle.rules.specs.declared.Placed.{Placed}
 use Rattle.rules.specs.declared.Observed.{Observed}
 use Rattle.rules.specs.Units.{quarter}
 use Rattle.rules.specs.Refusals.{given, refused}
@@ -42,6 +40,9 @@ use Rattle.place.specs.contracts.place as place
 use Rattle.module.specs.contracts.turns.turbelicus_reading as turbelicus_reading
 use Rattle.module.specs.contracts.places.turbelicus_place as turbelicus_place
 use Rattle.module.specs.contracts.observed.turbelicus_observed_place as turbelicus_observed_place
+use Rattle.rules.specs.declared.Refusal.{Refusal}
+use Rattle.rules.specs.Dates.{ut_and_tt}
+use Rattle.rules.specs.Refraction.{observed_with}
 
 -- ---- flags
 
@@ -49,15 +50,15 @@ use Rattle.module.specs.contracts.observed.turbelicus_observed_place as turbelic
 abbrev pub Flagged : ℤ → ℤ → Type 0
 Flagged has a = (has ≡ pos 1) ⊎ ((has ≡ pos 0) × (a ≡ pos 0))
 
-flagged : (r : Read) → Flagged (flag r) (or_nought r)
+flagged : (r : Option ℤ) → Flagged (flag r) (or_nought r)
 unfolding has_angle or_nought flag
-flagged (Read.Angle a) = inl refl
-flagged Read.NoAngle = inr (refl, refl)
+flagged (Some a) = inl refl
+flagged None = inr (refl, refl)
 
-flag_of_none : (r : Read) → flag r ≡ pos 0 ↔ r ≡ Read.NoAngle
+flag_of_none : (r : Option ℤ) → flag r ≡ pos 0 ↔ r ≡ None
 unfolding has_angle flag
-flag_of_none (Read.Angle a) = (λ e. absurd (omega (arith, ap nat_abs e)), λ e. some_is_not_none a e)
-flag_of_none Read.NoAngle = (λ e. refl, λ e. refl)
+flag_of_none (Some a) = (λ e. absurd (omega (arith, ap nat_abs e)), λ e. some_is_not_none a e)
+flag_of_none None = (λ e. refl, λ e. refl)
 
 through : {A B C : Type 0} → A ↔ B → B ↔ C → A ↔ C
 through f g = (λ a. g.0 (f.0 a), λ c. f.1 (g.1 c))
@@ -83,8 +84,8 @@ pub record PlaceTold (has_ra ra declination has_azimuth azimuth altitude : ℤ) 
   pub no_azimuth : has_azimuth ≡ pos 0 ↔ nat_abs altitude ≡ quarter
 
 told_of : (p : Place)
-    → (p.ra ≡ Read.NoAngle ↔ nat_abs p.declination ≡ quarter)
-    × (p.azimuth ≡ Read.NoAngle ↔ nat_abs p.altitude ≡ quarter)
+    → (p.ra ≡ None ↔ nat_abs p.declination ≡ quarter)
+    × (p.azimuth ≡ None ↔ nat_abs p.altitude ≡ quarter)
     → PlaceTold (flag p.ra) (or_nought p.ra) p.declination
     (flag p.azimuth) (or_nought p.azimuth) p.altitude
 told_of p h = record {
@@ -105,26 +106,27 @@ got_place : (m : Moment) (star : Star) (site : Site)
 unfolding placed_out placed_answer place_numbers given refused
 got_place m star site = by (places.place m star site) refl
   where
-    by : (q : Placed) → places.place m star site ≡ q
+    by : (q : Result Place Refusal) → places.place m star site ≡ q
         → (placed_out (placed_answer q)).refused ≡ pos 0 → GotPlaceTold (placed_out (placed_answer q))
-    by (Placed.At p) e z = told_of p (two_heights m star site p e)
-    by (Placed.Refused r) e z = absurd (omega (arith, number_pos r, ap nat_abs z))
+    by (Ok p) e z = told_of p (two_heights m star site p e)
+    by (Err r) e z = absurd (omega (arith, number_pos r, ap nat_abs z))
 
 got_observed : (m : Moment) (star : Star) (site : Site) (w : Weather)
     → let a = observed_out (observed_answer (observed_place m star site w)) in a.refused ≡ pos 0 → GotObservedTold a
 unfolding observed_out observed_answer place_numbers given refused
 got_observed m star site w = by (observed_place m star site w) refl
   where
-    by : (b : Observed) → observed_place m star site w ≡ b
+    by : (b : Result Observed Refusal) → observed_place m star site w ≡ b
         → (observed_out (observed_answer b)).refused ≡ pos 0 → GotObservedTold (observed_out (observed_answer b))
-    by (Observed.At p h) e z = told_of p (two_heights m star site p (place_untouched m star site w p h e))
-    by (Observed.Refused r) e z = absurd (omega (arith, number_pos r, ap nat_abs z))
+    by (Ok i) e z =
+        told_of i.place (two_heights m star site i.place (place_untouched m star site w i.place i.altitude e))
+    by (Err r) e z = absurd (omega (arith, number_pos r, ap nat_abs z))
 
 -- ---- the functions
 
 module _ {M : Type 1} {𝓤 : Ura M} (𝓛 : Logic 𝓤) (mem : Memory → SProp 𝓤) (run : Routine → Fun 𝓤) where
   pub reading_no_angle : Tells 𝓤 reading.ended (reading.clauses 𝓛 mem run)
-      (λ κs passed a x. a ≡ Read.NoAngle ↔ (passed.0 ≡ pos 0) × (passed.1.0 ≡ pos 0))
+      (λ κs passed a x. a ≡ None ↔ (passed.0 ≡ pos 0) × (passed.1.0 ≡ pos 0))
   reading_no_angle κs passed g a x = so_told 𝓤 (id⊢ 𝓤 _)
       (λ e. rw e (rules.no_angle_exactly passed.0 passed.1.0))
 
@@ -136,7 +138,7 @@ module _ {M : Type 1} {𝓤 : Ura M} (𝓛 : Logic 𝓤) (mem : Memory → SProp
 
   -- by the directions of the night, and by the heights
   pub place_told : Tells 𝓤 place.ended (place.clauses 𝓛 mem run)
-      (λ κs passed a x. (ut : Ut) (tt : Tt) (p : Place) → instants passed.0 ≡ Instants.At ut tt → a ≡ Placed.At p
+      (λ κs passed a x. (ut : Ut) (tt : Tt) (p : Place) → instants passed.0 ≡ Ok (ut_and_tt ut tt) → a ≡ Ok p
       → AxesTold (night ut tt passed.1.1.0) passed.1.0 p × HeightsTold p)
   place_told κs passed g a x = so_told 𝓤 (id⊢ 𝓤 _) (λ e ut tt p at f.
       let h = two_heights passed.0 passed.1.0 passed.1.1.0 p (sym e ∙ f) in (

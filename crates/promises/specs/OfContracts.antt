@@ -1,8 +1,10 @@
 -- What a contract asks and tells, what it is that no second answer fits it, and that the forms of contract used here
 -- have it.
 -- A contract is the `clauses` of a function: its `requires` and `ensures` as they stand in the source.
-use Rattle.std.specs.Prelude.{◌≡◌, refl}
-use Rattle.std.proofs.Common.{sym, ◌∙◌}
+use Rattle.std.specs.Prelude.{◌≡◌, refl, List}
+use Rattle.std.proofs.Common.{sym, ◌∙◌, ap}
+use Rattle.arrayvec.specs.ArrayVec.{ArrayVec}
+use Rattle.std.specs.Borrow.{Bor}
 use seplogic.Ra.Ura.{Ura}
 use base.Logic.{SProp, ent, sep, emp, via, id⊢, fst∗, snd∗, emp∗, mono_l, both⊢}
 use contract.Monad.{conj, conj_l, conj_r, fact, fact_i, fact_mono, fact_use}
@@ -36,6 +38,13 @@ module _ {M : Type 1} (𝓤 : Ura M) (T : Ended) (contract : Clauses 𝓤 T) whe
       (g : (contract κs passed).ghost) (r s : Res T.signature κs) (x y : AtExit T κs)
       → ent 𝓤 (conj 𝓤 ((contract κs passed).ensures g r x) ((contract κs passed).ensures g s y))
       (fact 𝓤 ((r ≡ s) × (content κs x ≡ content κs y)))
+
+  -- and, of a result that is lent, what it shows: where it stands no contract says
+  abbrev pub OneShown : {X : Type 0} → ((κs : Lfts T.signature.lifetimes) → Res T.signature κs → X) → Type 1
+  OneShown shown = (κs : Lfts T.signature.lifetimes) (passed : Args T.signature κs)
+      (g : (contract κs passed).ghost) (r s : Res T.signature κs) (x y : AtExit T κs)
+      → ent 𝓤 (conj 𝓤 ((contract κs passed).ensures g r x) ((contract κs passed).ensures g s y))
+      (fact 𝓤 (shown κs r ≡ shown κs s))
 
 module _ {M : Type 1} (𝓤 : Ura M) where
   -- what follows from what is told is told
@@ -113,3 +122,28 @@ module _ {M : Type 1} (𝓤 : Ura M) where
   pub one_content : {X : Type 0} (u v : Unit {0}) (a b after : X)
       → ent 𝓤 (conj 𝓤 (fact 𝓤 (a ≡ after)) (fact 𝓤 (b ≡ after))) (fact 𝓤 ((u ≡ v) × (a ≡ b)))
   one_content u v a b after = so_told (one a b after) (λ p. (refl, p))
+
+  -- `⌜ now p.exit ≡ after ⌝` and another clause, of a function that answers nothing
+  pub content_of_two : {X p q : Type 0} (u v : Unit {0}) (a b after : X)
+      → ent 𝓤 (conj 𝓤 (sep 𝓤 (fact 𝓤 (a ≡ after)) (fact 𝓤 p)) (sep 𝓤 (fact 𝓤 (b ≡ after)) (fact 𝓤 q)))
+      (fact 𝓤 ((u ≡ v) × (a ≡ b)))
+  content_of_two {p = p} {q = q} u v a b after = so_told
+      (told_one a b after (fst∗ 𝓤 (fact 𝓤 (a ≡ after)) (fact 𝓤 p)) (fst∗ 𝓤 (fact 𝓤 (b ≡ after)) (fact 𝓤 q)))
+      (λ e. (refl, e))
+
+  -- `⌜ r ≡ rule ⌝` and another clause
+  pub one_of_two : {W p q : Type 0} (v w rule : W)
+      → ent 𝓤 (conj 𝓤 (sep 𝓤 (fact 𝓤 (v ≡ rule)) (fact 𝓤 p)) (sep 𝓤 (fact 𝓤 (w ≡ rule)) (fact 𝓤 q))) (fact 𝓤 (v ≡ w))
+  one_of_two {p = p} {q = q} v w rule =
+      told_one v w rule (fst∗ 𝓤 (fact 𝓤 (v ≡ rule)) (fact 𝓤 p)) (fst∗ 𝓤 (fact 𝓤 (w ≡ rule)) (fact 𝓤 q))
+
+  -- `⌜ r.items ≡ rule ⌝`, of a text: it is no more than its items
+  pub one_text : {X : Type 0} (v w : ArrayVec X) (rule : List X)
+      → ent 𝓤 (conj 𝓤 (fact 𝓤 (v.items ≡ rule)) (fact 𝓤 (w.items ≡ rule))) (fact 𝓤 (v ≡ w))
+  one_text {X} v w rule = so_told (one v.items w.items rule)
+      (λ e. ap (λ (xs : List X). let text : ArrayVec X = record { items = xs } in text) e)
+
+  -- `⌜ r.now ≡ rule ⌝`, of a result that is lent
+  pub one_shown : {X : Type 0} (v w : Bor X) (rule : X)
+      → ent 𝓤 (conj 𝓤 (fact 𝓤 (v.now ≡ rule)) (fact 𝓤 (w.now ≡ rule))) (fact 𝓤 (v.now ≡ w.now))
+  one_shown v w rule = one v.now w.now rule

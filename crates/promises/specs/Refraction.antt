@@ -2,12 +2,11 @@
 -- altitude only: `Demand1/Weather.place_untouched` says that the place beside it is the place's own. What is refused,
 -- and exactly when, is `Demand1/Weather`; that every rule is followed to the last unit, `ByContract` and
 -- `ByContractForC`.
-use Rattle.std.specs.Prelude.{◌≡◌, true, false, List, ◌+◌, ◌≤◌, Float, ℤ, pos, nat_abs, ◌+ℤ◌, ◌*ℤ◌, ◌<ℤ◌, ◌≤ℤ◌}
+use Rattle.std.specs.Prelude.{◌≡◌, true, false, List, ◌+◌, ◌≤◌, Float, ℤ, pos, nat_abs, ◌+ℤ◌, ◌*ℤ◌, ◌<ℤ◌, ◌≤ℤ◌, Ok}
 use Rattle.std.proofs.Common.{lit<}
 use Rattle.std.specs.Int.Signed.{lt_z}
 use Rattle.rules.specs.declared.Reading.{Reading}
 use Rattle.rules.specs.declared.Weather.{Weather}
-use Rattle.rules.specs.declared.Weathered.{Weathered}
 use Rattle.rules.specs.Units.{unit, quarter, +◌, −◌}
 use Rattle.rules.specs.Rounding.{rnd}
 use Rattle.rules.specs.Circle.{pair}
@@ -43,20 +42,20 @@ pub record_in_range : (rs : List Reading) → FieldsInRange (kept.after no_weath
 record_in_range rs = (kept.record_kept rs).fields
 
 -- whatever C hands back: what is taken of it, with a reading and without
-pub handed_in_range : (w v : Weather) → recorded w ≡ Weathered.Now v → FieldsInRange v
+pub handed_in_range : (w v : Weather) → recorded w ≡ Ok v → FieldsInRange v
 handed_in_range w v e = (kept.recorded_keeps w v e).fields
 
-pub taken_in_range : (w v : Weather) (r : Reading) → taken_from w r ≡ Weathered.Now v → FieldsInRange v
+pub taken_in_range : (w v : Weather) (r : Reading) → taken_from w r ≡ Ok v → FieldsInRange v
 taken_in_range w v r e = (kept_proved.taken_from_keeps w v r e).fields
 
 -- what was answered is taken back as it is
-pub taken_back : (w v : Weather) (r : Reading) → taken_from w r ≡ Weathered.Now v → recorded v ≡ Weathered.Now v
+pub taken_back : (w v : Weather) (r : Reading) → taken_from w r ≡ Ok v → recorded v ≡ Ok v
 taken_back w v r e = kept.recorded_kept v (kept_proved.taken_from_keeps w v r e)
 
 -- and a record of which nothing has come, noughts say, is the one before any reading
 pub noughts_begin : (p t : Float)
     → recorded (record { pressure = p; temperature = t; has_pressure = false; has_temperature = false })
-    ≡ Weathered.Now no_weather
+    ≡ Ok no_weather
 noughts_begin p t = kept.nothing_come p t
 
 -- ---- the lift

@@ -1,7 +1,7 @@
 -- Change C-11 of the functions themselves, by their contracts: whatever is passed, the record that is answered has its
 -- fields in range and is taken back as it is; an observed altitude is what `RefractionAnswers` says of it; and two calls
 -- with one record keep the order of altitudes.
-use Rattle.std.specs.Prelude.{◌≡◌, ℤ, pos, ◌+ℤ◌, ◌<ℤ◌, ◌≤ℤ◌}
+use Rattle.std.specs.Prelude.{◌≡◌, ℤ, pos, ◌+ℤ◌, ◌<ℤ◌, ◌≤ℤ◌, Ok}
 use Rattle.std.proofs.Common.{sym, ap, ◌∙◌}
 use seplogic.Ra.Ura.{Ura}
 use base.Logic.{SProp, ent, id⊢}
@@ -10,8 +10,6 @@ use prog.Routine.{Routine}
 use types.Logic.{Logic}
 use contract.Monad.{Fun, conj, fact}
 use Rattle.rules.specs.declared.Weather.{Weather}
-use Rattle.rules.specs.declared.Angle.{Angle}
-use Rattle.rules.specs.declared.Weathered.{Weathered}
 use Rattle.rules.specs.Units.{+◌}
 use Rattle.rules.specs.Weather.{recorded}
 use Rattle.rules.specs.Place as places
@@ -32,7 +30,7 @@ module _ {M : Type 1} {𝓤 : Ura M} (𝓛 : Logic 𝓤) (mem : Memory → SProp
   -- ---- the record
 
   pub take_from_in_range : Tells 𝓤 take_from.ended (take_from.clauses 𝓛 mem run)
-      (λ κs passed a x. (v : Weather) → a ≡ Weathered.Now v → FieldsInRange v × (recorded v ≡ Weathered.Now v))
+      (λ κs passed a x. (v : Weather) → a ≡ Ok v → FieldsInRange v × (recorded v ≡ Ok v))
   take_from_in_range κs passed g a x = so_told 𝓤 (id⊢ 𝓤 _) (λ e v f. (
     rules.taken_in_range passed.0 v passed.1.0 (sym e ∙ f),
     rules.taken_back passed.0 v passed.1.0 (sym e ∙ f),
@@ -41,7 +39,7 @@ module _ {M : Type 1} {𝓤 : Ura M} (𝓛 : Logic 𝓤) (mem : Memory → SProp
   -- ---- the observed altitude
 
   pub observed_altitude_observes : Tells 𝓤 observed_altitude_lem.ended (observed_altitude_lem.clauses 𝓛 mem run)
-      (λ κs passed a x. (b : ℤ) → a ≡ Angle.Of b → Observes passed.0 b)
+      (λ κs passed a x. (b : ℤ) → a ≡ Ok b → Observes passed.0 b)
   observed_altitude_observes κs passed g a x =
       so_told 𝓤 (id⊢ 𝓤 _)
       (λ e b f. observes passed.1.0 passed.0 b (sym e ∙ f))
@@ -78,7 +76,7 @@ module _ {M : Type 1} {𝓤 : Ura M} (𝓛 : Logic 𝓤) (mem : Memory → SProp
   observing_told = told 𝓤 observed_altitude_lem.ended (observed_altitude_lem.clauses 𝓛 mem run)
 
   pub order_of_calls : (lower higher : Observing) (a b : ℤ)
-      → lower.passed.1.0 ≡ higher.passed.1.0 → lower.answer ≡ Angle.Of a → higher.answer ≡ Angle.Of b
+      → lower.passed.1.0 ≡ higher.passed.1.0 → lower.answer ≡ Ok a → higher.answer ≡ Ok b
       → (lower.passed.0 +ℤ + 119) ≤ℤ higher.passed.0
       → ent 𝓤 (conj 𝓤 (observing_told lower) (observing_told higher)) (fact 𝓤 (a <ℤ b))
   order_of_calls lower higher a b same e f l = together 𝓤 (id⊢ 𝓤 _) (id⊢ 𝓤 _) (λ p q.

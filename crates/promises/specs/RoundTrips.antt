@@ -1,14 +1,11 @@
 -- Demand 2, round trips: the list file read and written back, over entries and star by star as C does; day number and
 -- date; the pair of the opposite angle. Here of the rules; of the functions, by what their contracts tell of calls one
 -- after the other, in `Functions` and `FunctionsForC`.
-use Rattle.std.specs.Prelude.{◌≡◌, ℕ, ◌+◌, ◌*◌, ◌/◌, ◌<◌, ◌≤◌, length, take, drop, get_or, ℤ, pos, neg_ℤ}
+use Rattle.std.specs.Prelude.{◌≡◌, ℕ, ◌+◌, ◌*◌, ◌/◌, ◌<◌, ◌≤◌, length, take, drop, get_or, ℤ, pos, neg_ℤ, Ok}
 use Rattle.std.proofs.Common.{sym}
 use mathlib.Core.List.{List, [], ◌∷◌, ◌++◌, map, flat_map}
 use Rattle.rules.specs.declared.Date.{Date}
-use Rattle.rules.specs.declared.Numbered.{Numbered}
-use Rattle.rules.specs.declared.Dated.{Dated}
 use Rattle.rules.specs.declared.Entry.{Entry}
-use Rattle.rules.specs.declared.Listed.{Listed}
 use Rattle.rules.specs.Refusals.{given}
 use Rattle.rules.specs.Answers.{listed_star_answer}
 use Rattle.rules.specs.Calendar.{day_of, date_of}
@@ -30,15 +27,15 @@ pub mod FunctionsForC
 
 -- "Read and written back, it is byte-equal; bytes past it in the writer's room stay"
 pub read_then_written : (file : List ℕ) → Bytes file → (entries : List Entry) (count : ℕ)
-    → list_read file entries ≡ Listed.Count count → (room : List ℕ) → length file ≤ length room
-    → (list_written (take count (entries_after_read file entries)) room ≡ Listed.Count (length file))
+    → list_read file entries ≡ Ok count → (room : List ℕ) → length file ≤ length room
+    → (list_written (take count (entries_after_read file entries)) room ≡ Ok (length file))
     × (room_after_write (take count (entries_after_read file entries)) room ≡ file ++ drop (length file) room)
 read_then_written file byte entries count e room l = round_trip.read_then_written file byte entries count e room l
 
 -- what was written is read as fresh entries of the same stars, as many as were given; the entries past them stay
-pub written_then_read : (entries : List Entry) (room : List ℕ) (size : ℕ) → list_written entries room ≡ Listed.Count size
+pub written_then_read : (entries : List Entry) (room : List ℕ) (size : ℕ) → list_written entries room ≡ Ok size
     → (others : List Entry) → length entries ≤ length others
-    → (list_read (take size (room_after_write entries room)) others ≡ Listed.Count (length entries))
+    → (list_read (take size (room_after_write entries room)) others ≡ Ok (length entries))
     × (entries_after_read (take size (room_after_write entries room)) others
     ≡ map fresh_entry (stars_of entries) ++ drop (length entries) others)
 unfolding entries_after_read leaving
@@ -55,16 +52,16 @@ written_then_read entries room size e others l =
 abbrev pub numbers_in : List ℕ → ℕ → List ℤ
 numbers_in file count = flat_map (λ i. (listed_star_answer (list_star file i)).values) (up_from 0 count)
 
-pub stars_then_written : (file : List ℕ) → Bytes file → (count : ℕ) → list_count file ≡ Listed.Count count
+pub stars_then_written : (file : List ℕ) → Bytes file → (count : ℕ) → list_count file ≡ Ok count
     → (room : List ℕ) → length file ≤ length room
-    → (numbers_written (numbers_in file count) room ≡ Listed.Count (length file))
+    → (numbers_written (numbers_in file count) room ≡ Ok (length file))
     × (room_after_numbers (numbers_in file count) room ≡ file ++ drop (length file) room)
 stars_then_written file byte count e room l = numbers_round_trip.stars_then_written file byte count e room l
 
 -- what is read of a file that was written of a row of numbers
 pub record ReadBack (numbers : List ℤ) (file : List ℕ) : Type 0 where
   -- a star for each four of them
-  pub count : list_count file ≡ Listed.Count (length numbers / 4)
+  pub count : list_count file ≡ Ok (length numbers / 4)
   -- each with its four
   pub star : (i : ℕ) → i < length numbers / 4
       → listed_star_answer (list_star file i)
@@ -73,7 +70,7 @@ pub record ReadBack (numbers : List ℤ) (file : List ℕ) : Type 0 where
   -- and none is left over
   pub row : numbers_in file (length numbers / 4) ≡ numbers
 
-pub written_then_stars : (numbers : List ℤ) (room : List ℕ) (size : ℕ) → numbers_written numbers room ≡ Listed.Count size
+pub written_then_stars : (numbers : List ℤ) (room : List ℕ) (size : ℕ) → numbers_written numbers room ≡ Ok size
     → ReadBack numbers (take size (room_after_numbers numbers room))
 written_then_stars numbers room size e =
     let back = numbers_round_trip.written_then_stars numbers room size e in
@@ -82,10 +79,10 @@ written_then_stars numbers room size e =
 -- ---- day number and date
 
 -- of every date that is accepted, and of every day number that is
-pub day_then_date : (d : Date) (n : ℤ) → day_of d ≡ Numbered.Day n → date_of n ≡ Dated.On d
+pub day_then_date : (d : Date) (n : ℤ) → day_of d ≡ Ok n → date_of n ≡ Ok d
 day_then_date d n e = day_and_date.date_of_day_of d n e
 
-pub date_then_day : (n : ℤ) (d : Date) → date_of n ≡ Dated.On d → day_of d ≡ Numbered.Day n
+pub date_then_day : (n : ℤ) (d : Date) → date_of n ≡ Ok d → day_of d ≡ Ok n
 date_then_day n d e = day_and_date.day_of_date_of n d e
 
 -- ---- the opposite angle

@@ -1,13 +1,6 @@
 -- What the private functions ask of their numbers, by name: each is met for every reading.
-use Rattle.std.specs.Prelude.{◌+◌, ◌*◌, ◌≤◌, ◌<◌, ◌^◌, ℤ, nat_abs}
+use Rattle.std.specs.Prelude.{◌+◌, ◌≤◌, ◌<◌, ◌^◌, ℤ, nat_abs}
 use Rattle.laws.specs.UpTo.{UpTo}
-
--- a ratio that is read: a is at most 3/7 of b
-pub record RatioGiven (a b : ℤ) : Type 0 where
-  pub a_range : UpTo a (2 ^ 32)
-  pub b_range : UpTo b (2 ^ 32)
-  pub b_pos : 0 < nat_abs b
-  pub ratio_le : 7 * nat_abs a ≤ 3 * nat_abs b
 
 -- two sizes, the smaller first, the larger not nought
 pub record OctantGiven (m n : ℤ) : Type 0 where

@@ -9,7 +9,7 @@ ghost use Rattle.rules.specs.Turning.{Accepted};
 ghost use Rattle.rules.specs.Reading as readings;
 ghost use Rattle.rules.specs.Heights as heights;
 
-use rules::{Direction, Read};
+use rules::Direction;
 
 mod octants;
 
@@ -18,18 +18,20 @@ mod octants;
 // Given: h, v, any.
 // Returned: the angle in µas, from 0 to C - 1; or that there is none, for (0, 0).
 // Rule: docs/RULES.md, "Turns, readings, place".
-pub fn reading(h: i32, v: i32) -> Read
+pub fn reading(h: i32, v: i32) -> Option<i64>
     ensures { result ≡ readings.reading h v }
 {
-    let first = h as i64;
-    let second = v as i64;
+    let first = i64::from(h);
+    let second = i64::from(v);
     if first == 0 && second == 0 {
-        return Read::NoAngle;
+        return None;
     }
-    Read::Angle(octants::angle_of(first, second))
+    Some(octants::angle_of(first, second))
 }
 
 // The height of a direction above the plane of its first two axes: a declination or an altitude.
+// That it is accepted stays a clause: `laws/Turning.turn_by_accepted` says it of what a turn
+// answers, and a type would be made and unmade at every turn.
 //
 // Given: v, accepted.
 // Returned: the angle in µas, within a quarter of 0.
@@ -38,5 +40,5 @@ pub fn height(v: Direction) -> i64
     requires { Accepted (squares v) }
     ensures { result ≡ heights.height v }
 {
-    octants::height_of(v.x, v.y, v.z)
+    octants::height_of(v)
 }

@@ -1,33 +1,28 @@
 // The angle of a reading: in the first octant, in the first quarter, by the signs, and as a height.
+// The two numbers stay apart: each step exchanges them, takes their sizes or one of them alone.
 
 ghost use Rattle.std.specs.Prelude.{◌≡◌, nat_abs};
 ghost use Rattle.rules.specs.Units.{quarter};
 ghost use Rattle.rules.specs.Reading as rule;
 ghost use Rattle.rules.specs.Heights.{height};
 ghost use Rattle.laws.specs.UpTo.{UpTo};
-ghost use Rattle.laws.specs.Arc.{ratio};
 ghost use Rattle.laws.specs.Heights.{HeightGiven};
-ghost use Rattle.reading.specs.Given.{RatioGiven, OctantGiven, SizesGiven, ReadingGiven};
+ghost use Rattle.reading.specs.Given.{OctantGiven, SizesGiven, ReadingGiven};
 
-use units::{CIRCLE, HALF, HALF_QUARTER, QUARTER, UNIT};
+use length::part_to;
+use rules::Direction;
+use units::{CIRCLE, HALF, HALF_QUARTER, QUARTER};
 
-// u = Rnd(a * 2^30 / b).
-fn ratio_of(a: i64, b: i64) -> i64
-    requires { RatioGiven a b }
-    ensures { result ≡ ratio (nat_abs a) (nat_abs b) }
-{
-    rounding::rnd_short_quotient(a * UNIT, b)
-}
-
-// From m, the smaller size, and n, the larger: the angle from 0 to half a quarter.
+// From m, the smaller size, and n, the larger: the angle from 0 to half a quarter. Their ratio is
+// in parts of 2^30, as a part over a length is.
 fn angle_to_half(m: i64, n: i64) -> i64
     requires { OctantGiven m n }
     ensures { result ≡ rule.angle_to_half (nat_abs m) (nat_abs n) }
 {
     if 5 * m <= 2 * n {
-        return arcs::in_microarcseconds(arcs::arc(ratio_of(m, n)));
+        return arcs::in_microarcseconds(arcs::arc(part_to(m, n)));
     }
-    HALF_QUARTER - arcs::in_microarcseconds(arcs::arc(ratio_of(n - m, n + m)))
+    HALF_QUARTER - arcs::in_microarcseconds(arcs::arc(part_to(n - m, n + m)))
 }
 
 // From the sizes of h and v: the angle from 0 to a quarter.
@@ -69,11 +64,11 @@ pub fn angle_of(h: i64, v: i64) -> i64
     if a < CIRCLE { a } else { 0 }
 }
 
-// The height of (x, y, z).
-pub fn height_of(x: i64, y: i64, z: i64) -> i64
-    requires { HeightGiven (record { x = x; y = y; z = z }) }
-    ensures { result ≡ height (record { x = x; y = y; z = z }) }
+// The height of v.
+pub fn height_of(v: Direction) -> i64
+    requires { HeightGiven v }
+    ensures { result ≡ height v }
 {
-    let a = angle_of(roots::whole_root(x * x + y * y), z);
+    let a = angle_of(roots::whole_root(v.x * v.x + v.y * v.y), v.z);
     if HALF < a { a - CIRCLE } else { a }
 }

@@ -36,8 +36,7 @@ fn standard_lift(h: i64) -> i64
     ensures { result ≡ rule.standard_lift h }
 {
     let p = pair(argument(h));
-    let l = rnd_quotient(61200000 * p.cosine, p.sine);
-    if l < 0 { 0 } else { l }
+    rnd_quotient(61200000 * p.cosine, p.sine).max(0)
 }
 
 // A lift in the weather: the product is carried whole, below 2^57.
@@ -63,16 +62,14 @@ pub fn lift_at(h: i64, p: i64, t: i64) -> i64
     in_weather(standard_lift(h), p, t)
 }
 
-// The lift of an altitude, by the record: 0 until both readings have come.
+// The lift of an altitude, by the record: 0 until both readings have come. Altitude and record stay
+// two: the altitude is a place's, the record C's.
 fn lift(h: i64, w: Weather) -> i64
     requires { FieldsInRange w }
     ensures { result ≡ rule.lift w h }
 {
-    if !w.has_pressure {
-        return 0;
+    if w.has_pressure && w.has_temperature {
+        return lift_at(h, tenths(w.pressure), tenths(w.temperature));
     }
-    if !w.has_temperature {
-        return 0;
-    }
-    lift_at(h, tenths(w.pressure), tenths(w.temperature))
+    0
 }

@@ -5,7 +5,7 @@ ghost use Rattle.rules.specs.Refraction as rule;
 ghost use Rattle.laws.specs.Weather.{FieldsInRange};
 
 use crate::lift;
-use rules::{Angle, Refusal, Weather, Weathered};
+use rules::{Refusal, Weather};
 use weather::kept::recorded;
 
 // The altitude and its lift.
@@ -22,12 +22,9 @@ fn lifted(h: i64, w: Weather) -> i64
 // Returned: the altitude and its lift in µas, within a quarter where the altitude is; or refusal
 // 14, where a reading that has come is not accepted.
 // Rule: docs/RULES.md, "Refraction".
-pub fn observed_altitude(h: i64, w: Weather) -> Angle
+pub fn observed_altitude(h: i64, w: Weather) -> Result<i64, Refusal>
     ensures { result ≡ rule.observed_altitude w h }
 {
-    let given = recorded(w);
-    match given {
-        Weathered::Now(v) => Angle::Of(lifted(h, v)),
-        Weathered::Refused(_) => Angle::Refused(Refusal::Reading),
-    }
+    let kept = recorded(w).map_err(|_| Refusal::Reading)?;
+    Ok(lifted(h, kept))
 }

@@ -31,7 +31,8 @@ const ABERRATED_LEAST: i64 = 1152358623372902400;
 
 const ABERRATED_LARGEST: i64 = 1153484523279745023;
 
-// The whole root, downward, worked as the service manual does.
+// The whole root, downward, worked as the service manual does: that way is the customer's, so the
+// library's `isqrt` does not stand here (docs/changes).
 //
 // Given: n, not negative.
 // Returned: the largest number whose square is at most n.
@@ -56,19 +57,22 @@ pub fn whole_root(n: i64) -> i64
     root_from(n, 0, first_power(n))
 }
 
-// The first power of two that is tried, from the number of leading zeros; 0 where none is.
+// The first power of two that is tried, from the number of leading zeros; 0 where none is. That n
+// is not negative stays a clause, here and above: the type that says so is u64, in which nothing is
+// summed here.
 fn first_power(n: i64) -> i64
     requires { pos 0 ≤ℤ n }
     ensures { result ≡ pos (first_power (nat_abs n)) }
 {
     // the language counts leading zeros of unsigned numbers alone; no sum is formed there
     let word = n as u64;
-    let digits = 64 - u64::leading_zeros(word) as i64;
+    let digits = 64 - i64::from(word.leading_zeros());
     let root_digits = (digits + 1) / 2;
     (1 << root_digits) / 2
 }
 
-// The trials from one power of two down to 1, the root so far being `begun`.
+// The trials from one power of two down to 1, the root so far being `begun`. No `for`: nothing is
+// counted, the power is halved until none is left.
 fn root_from(n: i64, begun: i64, first: i64) -> i64
     requires { Begun n begun first }
     ensures { result ≡ pos (root (nat_abs n)) }
@@ -88,11 +92,12 @@ fn kept_of(n: i64, low: i64, power: i64) -> i64
     ensures { result ≡ pos (kept (nat_abs n) (nat_abs low) (nat_abs power)) }
 {
     let trial = low + power;
-    // its square is above n, and passes an i64
-    if ROOTS <= trial {
-        return low;
+    // from ROOTS on the square is above n, and passes an i64
+    if trial < ROOTS && trial * trial <= n {
+        trial
+    } else {
+        low
     }
-    if trial * trial <= n { trial } else { low }
 }
 
 // The whole root of a squared length, downward: a short cut in front of `whole_root`. It is here
@@ -101,17 +106,19 @@ fn kept_of(n: i64, low: i64, power: i64) -> i64
 // Given: n, not negative.
 // Returned: the largest number whose square is at most n.
 // Rule: docs/RULES.md, "Sine and cosine".
+#[tactic(auto, unfolding(rules::specs::Units::between))]
 pub fn length_root(n: i64) -> i64
     requires { pos 0 ≤ℤ n }
     ensures { result ≡ pos (root (nat_abs n)) }
 {
+    // no `match` of the two ranges: a place takes more instructions by it
     if is_between(NEAR_LEAST, NEAR_LARGEST, n) {
-        return near_root(n);
+        near_root(n)
+    } else if is_between(ABERRATED_LEAST, ABERRATED_LARGEST, n) {
+        stepped_root(n, ABERRATED, 32)
+    } else {
+        whole_root(n)
     }
-    if is_between(ABERRATED_LEAST, ABERRATED_LARGEST, n) {
-        return stepped_root(n, ABERRATED, 32);
-    }
-    whole_root(n)
 }
 
 // The same, without a test, of a number that is known to be near 2^60.

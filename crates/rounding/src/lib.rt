@@ -23,6 +23,9 @@ const HALF_UNIT: i64 = 536870912;
 // Returned: Rnd(a / b), no larger in size than a.
 // Rule: docs/RULES.md, "Numbers, angles, instants".
 //
+// What is asked of b stands with each function, and not in a type: its callers would wrap and
+// unwrap the constants that they divide by.
+//
 // Both operators go toward zero and keep the sign of a, so there is no case on signs. The text-book
 // (2 * a + b) / (2 * b) would pass the word from a = 2^62 up.
 pub fn rnd_quotient(a: i64, b: i64) -> i64

@@ -1,6 +1,6 @@
 -- docs/RULES.md, "Polynomials in time": the five arguments of nutation (IAU 1980). Definitions only.
-use Rattle.std.specs.Prelude.{cond, List, [], ◌∷◌, ℤ}
-use Rattle.rules.specs.Data.{Tt, Arguments, Refusal, FiveArguments}
+use Rattle.std.specs.Prelude.{cond, List, [], ◌∷◌, ℤ, Result, Ok, Err}
+use Rattle.rules.specs.Data.{Tt, Arguments, Refusal}
 use Rattle.rules.specs.Units.{+◌, −◌}
 use Rattle.rules.specs.Polynomials.{polynomial, instant_refused}
 
@@ -34,5 +34,5 @@ arguments t = record {
 }
 
 -- or refusal 12
-unfoldable pub arguments_at : Tt → FiveArguments
-arguments_at t = cond (instant_refused t.0) (FiveArguments.Refused Refusal.Instant) (FiveArguments.By (arguments t))
+unfoldable pub arguments_at : Tt → Result Arguments Refusal
+arguments_at t = cond (instant_refused t.0) (Err Refusal.Instant) (Ok (arguments t))

@@ -1,7 +1,7 @@
 -- docs/RULES.md, "Lists": a list file written, from entries and from plain numbers. Definitions only.
-use Rattle.std.specs.Prelude.{ℕ, zero, suc, ◌/◌, ◌%◌, Bool, not, cond, ◌||◌, length, drop, get_or, eqb, ltb, ℤ, pos}
+use Rattle.std.specs.Prelude.{ℕ, zero, suc, ◌/◌, ◌%◌, Bool, not, cond, ◌||◌, length, drop, get_or, eqb, ltb, ℤ, pos, Result, Ok, Err}
 use mathlib.Core.List.{List, [], ◌∷◌, ◌++◌, map, foldr}
-use Rattle.rules.specs.Data.{Star, Entry, Refusal, Listed}
+use Rattle.rules.specs.Data.{Star, Entry, Refusal}
 use Rattle.rules.specs.Bytes.{bytes_of}
 use Rattle.rules.specs.ListFile.{mark, most_records, file_length, record_of, any_refused}
 use Rattle.rules.specs.ListReading.{leaving}
@@ -21,14 +21,14 @@ unfoldable pub room_refused : ℕ → ℕ → Bool
 room_refused count room = ltb most_records count || ltb room (file_length count)
 
 -- 5 where a star is refused, then 11 where the room is; the length of the file of so many stars
-unfoldable pub written_of : Bool → Bool → ℕ → Listed
+unfoldable pub written_of : Bool → Bool → ℕ → Result ℕ Refusal
 written_of star_is room_is count =
-    cond star_is (Listed.Refused Refusal.Star)
-    (cond room_is (Listed.Refused Refusal.Room)
-    (Listed.Count (file_length count)))
+    cond star_is (Err Refusal.Star)
+    (cond room_is (Err Refusal.Room)
+    (Ok (file_length count)))
 
 -- a list written into lent room: the file's length
-unfoldable pub list_written : List Entry → List ℕ → Listed
+unfoldable pub list_written : List Entry → List ℕ → Result ℕ Refusal
 list_written entries room =
     written_of (any_refused (stars_of entries)) (room_refused (length entries) (length room)) (length entries)
 
@@ -63,7 +63,7 @@ unfoldable pub row_refused : List ℤ → ℕ → Bool
 row_refused numbers room = not (eqb (length numbers % 4) 0) || room_refused (count_from numbers) room
 
 -- a row of numbers written into lent room as a file: its length
-unfoldable pub numbers_written : List ℤ → List ℕ → Listed
+unfoldable pub numbers_written : List ℤ → List ℕ → Result ℕ Refusal
 numbers_written numbers room =
     written_of (any_refused (number_stars numbers)) (row_refused numbers (length room)) (count_from numbers)
 

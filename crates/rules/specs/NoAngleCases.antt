@@ -1,6 +1,6 @@
 -- Worked cases of change C-12, as one list under one claim: what has no angle, and what the night list makes of it.
-use Rattle.std.specs.Prelude.{◌≡◌, refl, [], ◌∷◌}
-use Rattle.rules.specs.Data.{Read, Star, Place, Entry, Placed}
+use Rattle.std.specs.Prelude.{◌≡◌, refl, [], ◌∷◌, Ok, Some, None}
+use Rattle.rules.specs.Data.{Star, Place, Entry}
 use Rattle.rules.specs.Units.{+◌, −◌}
 use Rattle.rules.specs.Rounding.{rnd, rnd_size}
 use Rattle.rules.specs.Circle.{square_parts}
@@ -15,19 +15,19 @@ star = record { ra = + 1; declination = + 2; ra_motion = + 3; declination_motion
 
 -- four kinds of place: with both, at the pole, at the zenith, and where the pole is at the zenith
 abbrev both : Place
-both = record { ra = Read.Angle (+ 0); declination = + 5; azimuth = Read.Angle (+ 0); altitude = + 6 }
+both = record { ra = Some (+ 0); declination = + 5; azimuth = Some (+ 0); altitude = + 6 }
 
 abbrev at_pole : Place
-at_pole = record { ra = Read.NoAngle; declination = + 324000000000; azimuth = Read.Angle (+ 7); altitude = + 6 }
+at_pole = record { ra = None; declination = + 324000000000; azimuth = Some (+ 7); altitude = + 6 }
 
 abbrev at_zenith : Place
-at_zenith = record { ra = Read.Angle (+ 8); declination = + 5; azimuth = Read.NoAngle; altitude = + 324000000000 }
+at_zenith = record { ra = Some (+ 8); declination = + 5; azimuth = None; altitude = + 324000000000 }
 
 abbrev at_both : Place
 at_both = record {
-  ra = Read.NoAngle;
+  ra = None;
   declination = + 324000000000;
-  azimuth = Read.NoAngle;
+  azimuth = None;
   altitude = + 324000000000;
 }
 
@@ -40,14 +40,14 @@ refused_entry = record {
 
 pub record NoAngleCases : Type 0 where
   -- "Reading an angle from (0, 0) shall answer that there is no angle", and from no other two numbers
-  pub none_at_0_0 : reading (+ 0) (+ 0) ≡ Read.NoAngle
-  pub nought_at_1_0 : reading (+ 1) (+ 0) ≡ Read.Angle (+ 0)
-  pub half_at_minus_1_0 : reading (− 1) (+ 0) ≡ Read.Angle (+ 648000000000)
-  pub three_quarters_at_0_minus_1 : reading (+ 0) (− 1) ≡ Read.Angle (+ 972000000000)
+  pub none_at_0_0 : reading (+ 0) (+ 0) ≡ None
+  pub nought_at_1_0 : reading (+ 1) (+ 0) ≡ Some (+ 0)
+  pub half_at_minus_1_0 : reading (− 1) (+ 0) ≡ Some (+ 648000000000)
+  pub three_quarters_at_0_minus_1 : reading (+ 0) (− 1) ≡ Some (+ 972000000000)
   -- a right ascension of nought is no missing one
-  pub both_answered : placed_answer (Placed.At both) ≡ given (+ 1 ∷ + 0 ∷ + 5 ∷ + 1 ∷ + 0 ∷ + 6 ∷ [])
-  pub pole_answered : placed_answer (Placed.At at_pole) ≡ given (+ 0 ∷ + 0 ∷ + 324000000000 ∷ + 1 ∷ + 7 ∷ + 6 ∷ [])
-  pub zenith_answered : placed_answer (Placed.At at_zenith) ≡ given (+ 1 ∷ + 8 ∷ + 5 ∷ + 0 ∷ + 0 ∷ + 324000000000 ∷ [])
+  pub both_answered : placed_answer (Ok both) ≡ given (+ 1 ∷ + 0 ∷ + 5 ∷ + 1 ∷ + 0 ∷ + 6 ∷ [])
+  pub pole_answered : placed_answer (Ok at_pole) ≡ given (+ 0 ∷ + 0 ∷ + 324000000000 ∷ + 1 ∷ + 7 ∷ + 6 ∷ [])
+  pub zenith_answered : placed_answer (Ok at_zenith) ≡ given (+ 1 ∷ + 8 ∷ + 5 ∷ + 0 ∷ + 0 ∷ + 324000000000 ∷ [])
   -- "mark 1, with nought in the angle that has none"
   pub both_marked : entry_of star both ≡ record {
     star = star;

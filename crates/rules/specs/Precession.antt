@@ -1,6 +1,6 @@
 -- docs/RULES.md, "Polynomials in time": precession and the mean obliquity. Definitions only.
-use Rattle.std.specs.Prelude.{cond, List, [], ◌∷◌, ℤ}
-use Rattle.rules.specs.Data.{Tt, Precession, Refusal, Angle, Precessed}
+use Rattle.std.specs.Prelude.{cond, List, [], ◌∷◌, ℤ, Result, Ok, Err}
+use Rattle.rules.specs.Data.{Tt, Precession, Refusal}
 use Rattle.rules.specs.Units.{+◌, −◌}
 use Rattle.rules.specs.Polynomials.{polynomial, instant_refused, angle_at}
 
@@ -26,8 +26,8 @@ precession t = record {
 }
 
 -- or refusal 12
-unfoldable pub precession_at : Tt → Precessed
-precession_at t = cond (instant_refused t.0) (Precessed.Refused Refusal.Instant) (Precessed.By (precession t))
+unfoldable pub precession_at : Tt → Result Precession Refusal
+precession_at t = cond (instant_refused t.0) (Err Refusal.Instant) (Ok (precession t))
 
 -- ---- "Mean obliquity ε"
 
@@ -39,5 +39,5 @@ unfoldable pub obliquity : Tt → ℤ
 obliquity t = polynomial obliquity_row t.0
 
 -- or refusal 12
-unfoldable pub obliquity_at : Tt → Angle
+unfoldable pub obliquity_at : Tt → Result ℤ Refusal
 obliquity_at t = angle_at t.0 (obliquity t)

@@ -1,8 +1,8 @@
 -- docs/RULES.md, "Refraction": the lift and the observed altitude (02, C-11), Sæmundsson's formula. Definitions only.
-use Rattle.std.specs.Prelude.{Bool, cond, ◌&&◌, ℤ, pos, nat_abs, ◌+ℤ◌, ◌*ℤ◌}
+use Rattle.std.specs.Prelude.{Bool, cond, ◌&&◌, ℤ, pos, nat_abs, ◌+ℤ◌, ◌*ℤ◌, Result, Ok, Err}
 use Rattle.std.specs.Int.Signed.{lt_z}
 use Rattle.rules.specs.Data.{Pair, Moment, Star, Site, Place, Weather}
-use Rattle.rules.specs.Data.{Refusal, Angle, Placed, Observed, Weathered}
+use Rattle.rules.specs.Data.{Refusal, Observed}
 use Rattle.rules.specs.Units.{quarter, +◌, −◌, between}
 use Rattle.rules.specs.Rounding.{rnd}
 use Rattle.rules.specs.Circle.{pair}
@@ -53,23 +53,27 @@ unfoldable pub observed : Weather → ℤ → ℤ
 observed w h = h +ℤ lift w h
 
 -- by a record that C kept: "14, a reading not accepted"
-unfoldable pub observed_in : Weathered → ℤ → Angle
-observed_in (Weathered.Now w) h = Angle.Of (observed w h)
-observed_in (Weathered.Refused w) h = Angle.Refused Refusal.Reading
+unfoldable pub observed_in : Result Weather Weather → ℤ → Result ℤ Refusal
+observed_in (Ok w) h = Ok (observed w h)
+observed_in (Err w) h = Err Refusal.Reading
 
-unfoldable pub observed_altitude : Weather → ℤ → Angle
+unfoldable pub observed_altitude : Weather → ℤ → Result ℤ Refusal
 observed_altitude w h = observed_in (recorded w) h
 
 -- ---- the place with its observed altitude
 
-unfoldable pub observed_at : Place → Angle → Observed
-observed_at p (Angle.Of a) = Observed.At p a
-observed_at p (Angle.Refused r) = Observed.Refused r
+-- a place and its observed altitude together
+abbrev pub observed_with : Place → ℤ → Observed
+observed_with p h = record { place = p; altitude = h }
+
+unfoldable pub observed_at : Place → Result ℤ Refusal → Result Observed Refusal
+observed_at p (Ok a) = Ok (observed_with p a)
+observed_at p (Err r) = Err r
 
 -- "after all others": those of the place first
-unfoldable pub observed_beside : Placed → Weather → Observed
-observed_beside (Placed.At p) w = observed_at p (observed_altitude w p.altitude)
-observed_beside (Placed.Refused r) w = Observed.Refused r
+unfoldable pub observed_beside : Result Place Refusal → Weather → Result Observed Refusal
+observed_beside (Ok p) w = observed_at p (observed_altitude w p.altitude)
+observed_beside (Err r) w = Err r
 
-unfoldable pub observed_place : Moment → Star → Site → Weather → Observed
+unfoldable pub observed_place : Moment → Star → Site → Weather → Result Observed Refusal
 observed_place m star site w = observed_beside (place m star site) w

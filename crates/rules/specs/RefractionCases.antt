@@ -1,7 +1,7 @@
 -- docs/RULES.md, "Refraction": worked cases of the rules (02, C-11), as one list under one claim.
-use Rattle.std.specs.Prelude.{◌≡◌, refl, true, false, pos, negsuc, Float}
+use Rattle.std.specs.Prelude.{◌≡◌, refl, true, false, pos, negsuc, Float, Ok, Err}
 use Rattle.std.specs.Float.{nan, inf, fin}
-use Rattle.rules.specs.Data.{Reading, Weather, Refusal, Angle, Weathered}
+use Rattle.rules.specs.Data.{Reading, Weather, Refusal}
 use Rattle.rules.specs.Units.{+◌, −◌, between}
 use Rattle.rules.specs.Rounding.{rnd, rnd_size, modulo}
 use Rattle.rules.specs.Length.{root_from, root, square, pair_squares, part_to, pair_to_length}
@@ -50,11 +50,11 @@ pub record RefractionCases : Type 0 where
   pub temperature_minus_50 : is_temperature (fin true 25 (pos 1)) ≡ true
   pub temperature_minus_nought : is_temperature minus_nought ≡ true
   pub none_has_come : in_range no_weather ≡ true
-  pub refused : taken no_weather (Reading.Pressure nan) ≡ Weathered.Refused no_weather
-  pub nothing : taken coldest Reading.Nothing ≡ Weathered.Now coldest
-  pub first_pressure : taken no_weather (Reading.Pressure usual) ≡ Weathered.Now (pressure_alone usual)
+  pub refused : taken no_weather (Reading.Pressure nan) ≡ Err no_weather
+  pub nothing : taken coldest Reading.Nothing ≡ Ok coldest
+  pub first_pressure : taken no_weather (Reading.Pressure usual) ≡ Ok (pressure_alone usual)
   pub latest_temperature : taken coldest (Reading.Temperature frost)
-      ≡ Weathered.Now (weather (fin false 275 (pos 2)) frost)
+      ≡ Ok (weather (fin false 275 (pos 2)) frost)
   pub argument_at_the_floor : argument (− 3600000000) ≡ + 5421897810
   pub standard_at_the_floor : standard_lift (− 3600000000) ≡ + 2327690259
   pub standard_at_the_horizon : standard_lift (+ 0) ≡ + 1738915635
@@ -62,10 +62,10 @@ pub record RefractionCases : Type 0 where
   pub coldest_at_the_floor : lift coldest (− 3600000000) ≡ + 3217200096
   pub coldest_below_the_floor : lift coldest (− 3600000001) ≡ + 0
   pub observed_at_10_degrees : observed (weather usual frost) (+ 36000000000) ≡ + 36350675425
-  pub observed_without_weather : observed_altitude no_weather (+ 36000000000) ≡ Angle.Of (+ 36000000000)
+  pub observed_without_weather : observed_altitude no_weather (+ 36000000000) ≡ Ok (+ 36000000000)
   pub observed_with_pressure_alone : observed_altitude (pressure_alone usual) (+ 36000000000)
-      ≡ Angle.Of (+ 36000000000)
-  pub observed_refused_lem : observed_altitude (weather nan frost) (+ 0) ≡ Angle.Refused Refusal.Reading
+      ≡ Ok (+ 36000000000)
+  pub observed_refused_lem : observed_altitude (weather nan frost) (+ 0) ≡ Err Refusal.Reading
 
 pub refraction_cases : RefractionCases
 unfolding between rnd rnd_size modulo root_from root square pair_squares part_to pair_to_length radian_parts square_parts

@@ -1,7 +1,7 @@
 -- docs/RULES.md, "UTC of a TT instant": 02, C-22, "Give the UTC date and time for a TT instant". Definitions only.
-use Rattle.std.specs.Prelude.{ℕ, ◌+◌, ◌-◌, ◌*◌, ◌/◌, ◌%◌, min, Bool, not, cond, map, eqb, ℤ, pos, nat_abs, ◌+ℤ◌, ◌-ℤ◌}
+use Rattle.std.specs.Prelude.{ℕ, ◌+◌, ◌-◌, ◌*◌, ◌/◌, ◌%◌, min, Bool, not, cond, map, eqb, ℤ, pos, nat_abs, ◌+ℤ◌, ◌-ℤ◌, Result, Ok, Err}
 use Rattle.std.specs.Int.Signed.{le_z}
-use Rattle.rules.specs.Data.{Tt, Date, Time, Utc, Moment, Refusal, Clocked}
+use Rattle.rules.specs.Data.{Tt, Date, Time, Utc, Moment, Refusal}
 use Rattle.rules.specs.Units.{day, +◌, between}
 use Rattle.rules.specs.Years.{first_year, last_year, sum}
 use Rattle.rules.specs.Calendar.{days_before2000, date_of_count}
@@ -78,5 +78,5 @@ unfoldable pub utc_at : ℤ → Utc
 utc_at t = record { date = date_of_count (days_of_span t); time = time_of_ms (ms_of_span t - days_of_span t * day) }
 
 -- "Give the UTC date and time for a TT instant", or refusal 20
-unfoldable pub utc_of_tt : Tt → Clocked
-utc_of_tt t = cond (stretch_refused t) (Clocked.Refused Refusal.Stretch) (Clocked.At (utc_at t.0))
+unfoldable pub utc_of_tt : Tt → Result Utc Refusal
+utc_of_tt t = cond (stretch_refused t) (Err Refusal.Stretch) (Ok (utc_at t.0))

@@ -1,7 +1,7 @@
 -- docs/RULES.md, "Refraction": the probe's readings and the weather record (02, C-11). Definitions only.
-use Rattle.std.specs.Prelude.{Bool, true, false, cond, ◌&&◌, pos, Float}
+use Rattle.std.specs.Prelude.{Bool, true, false, cond, ◌&&◌, pos, Float, Result, Ok, Err}
 use Rattle.std.specs.Float.{fin}
-use Rattle.rules.specs.Data.{Reading, Weather, Weathered}
+use Rattle.rules.specs.Data.{Reading, Weather}
 use Rattle.rules.specs.Units.{+◌, −◌}
 use Rattle.rules.specs.Floats.{lies}
 
@@ -61,8 +61,8 @@ with_reading w (Reading.Temperature t) = with_temperature w t
 with_reading w Reading.Nothing = w
 
 -- "14, a reading not accepted ..; the record stays"
-unfoldable pub taken : Weather → Reading → Weathered
-taken w r = cond (is_accepted r) (Weathered.Now (with_reading w r)) (Weathered.Refused w)
+unfoldable pub taken : Weather → Reading → Result Weather Weather
+taken w r = cond (is_accepted r) (Ok (with_reading w r)) (Err w)
 
 -- ---- a record that C kept, and that may be anything
 
@@ -76,17 +76,17 @@ mended w = record {
 }
 
 -- and one that has come has to be accepted
-unfoldable pub recorded : Weather → Weathered
-recorded w = cond (in_range (mended w)) (Weathered.Now (mended w)) (Weathered.Refused w)
+unfoldable pub recorded : Weather → Result Weather Weather
+recorded w = cond (in_range (mended w)) (Ok (mended w)) (Err w)
 
 -- a reading into it: where either is refused, the record stays as C kept it
-unfoldable pub stays : Weather → Weathered → Weathered
-stays w (Weathered.Now v) = Weathered.Now v
-stays w (Weathered.Refused v) = Weathered.Refused w
+unfoldable pub stays : Weather → Result Weather Weather → Result Weather Weather
+stays w (Ok v) = Ok v
+stays w (Err v) = Err w
 
-unfoldable pub taken_in : Weather → Weathered → Reading → Weathered
-taken_in w (Weathered.Now v) r = stays w (taken v r)
-taken_in w (Weathered.Refused v) r = Weathered.Refused w
+unfoldable pub taken_in : Weather → Result Weather Weather → Reading → Result Weather Weather
+taken_in w (Ok v) r = stays w (taken v r)
+taken_in w (Err v) r = Err w
 
-unfoldable pub taken_from : Weather → Reading → Weathered
+unfoldable pub taken_from : Weather → Reading → Result Weather Weather
 taken_from w r = taken_in w (recorded w) r

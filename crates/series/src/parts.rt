@@ -36,18 +36,19 @@ pub fn pair_of_parts(x: i64) -> Pair
     ensures { result ≡ pair_of_parts x }
 {
     let w = square_parts(x);
-    let s = rounding::rnd_by_unit(x * rows::sine_factor(w));
-    pair_to_length(rows::raw_cosine(w), s)
+    let sine = rounding::rnd_by_unit(x * rows::sine_factor(w));
+    let cosine = rows::raw_cosine(w);
+    pair_to_length(Pair { cosine, sine })
 }
 
-// c and s, brought to length. Theirs is always near 2^30: its root is taken without a test.
-fn pair_to_length(c: i64, s: i64) -> Pair
-    requires { PairGiven (record { cosine = c; sine = s }) }
-    ensures { result ≡ pair_to_length (record { cosine = c; sine = s }) }
+// p, brought to length. Its own is always near 2^30: the root is taken without a test.
+fn pair_to_length(p: Pair) -> Pair
+    requires { PairGiven p }
+    ensures { result ≡ pair_to_length p }
 {
-    let l = roots::near_root(c * c + s * s);
+    let l = roots::near_root(p.cosine * p.cosine + p.sine * p.sine);
     Pair {
-        cosine: length::part_to(c, l),
-        sine: length::part_to(s, l),
+        cosine: length::part_to(p.cosine, l),
+        sine: length::part_to(p.sine, l),
     }
 }

@@ -21,8 +21,8 @@ pub fn star_refused(star: Star) -> bool
     numbers_refused(
         star.ra,
         star.declination,
-        star.ra_motion as i64,
-        star.declination_motion as i64,
+        i64::from(star.ra_motion),
+        i64::from(star.declination_motion),
     )
 }
 

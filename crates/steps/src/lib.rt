@@ -3,15 +3,19 @@
 // The six steps of a place, in their order: a star of the catalogue in, what is read from its
 // directions out.
 
-ghost use Rattle.std.specs.Prelude.{◌≡◌, ◌^◌};
+ghost use Rattle.std.specs.Prelude.{◌≡◌, ◌^◌, false};
 ghost use Rattle.rules.specs.Length.{squares};
 ghost use Rattle.rules.specs.Turning.{Accepted};
 ghost use Rattle.rules.specs.Reading as readings;
+ghost use Rattle.rules.specs.Stars.{star_refused};
 ghost use Rattle.rules.specs.Place as rule;
 ghost use Rattle.laws.specs.Directions.{PartsLe, plus};
-ghost use Rattle.steps.specs.Given.{MotionFits, AnglesFit, StepFits, StarFits, PartsFit};
+ghost use Rattle.steps.specs.Given.{MotionFits, AnglesFit, PartsFit};
 
-use rules::{Direction, Night, Place, Read, Star, Tt};
+pub mod ready;
+
+use ready::ReadyNight;
+use rules::{Direction, Place, Star, Tt};
 use units::{CIRCLE, YEAR};
 
 // The direction (2^30, 0, 0), which step 2 begins with.
@@ -26,7 +30,7 @@ fn moved(t: Tt, angle: i64, motion: i32) -> i64
     requires { MotionFits t angle motion }
     ensures { result ≡ rule.moved t angle motion }
 {
-    angle + rounding::rnd_product_quotient(t.0, motion as i64, YEAR)
+    angle + rounding::rnd_product_quotient(t.0, i64::from(motion), YEAR)
 }
 
 // 2. The direction of a right ascension and a declination, which may lie past the pole.
@@ -38,14 +42,21 @@ fn directed(ra: i64, declination: i64) -> Direction
     turning::turn_by(raised, 3, circle::pair(ra % CIRCLE))
 }
 
+// That the direction is accepted stays a clause of each step: a type would be made and unmade at
+// every turn.
+
+// Steps 3, 5 and 6 each call `turning::turn_by` by themselves. One function over a row of axes with
+// their pairs, as a loop or a fold, was tried in a sketch that LLVM built: the eight turns of a
+// place took 9 to 170 instructions more.
+
 // 3. Precession.
-fn precessed(n: Night, v: Direction) -> Direction
-    requires { StepFits n v }
+fn precessed(n: ReadyNight, v: Direction) -> Direction
+    requires { Accepted (squares v) }
     ensures { result ≡ rule.precessed n v }
 {
-    let zeta = n.zeta;
-    let minus_theta = n.minus_theta;
-    let z = n.z;
+    let zeta = n.night.zeta;
+    let minus_theta = n.night.minus_theta;
+    let z = n.night.z;
     turning::turn_by(
         turning::turn_by(turning::turn_by(v, 3, zeta), 2, minus_theta),
         3,
@@ -54,18 +65,18 @@ fn precessed(n: Night, v: Direction) -> Direction
 }
 
 // 4. Aberration.
-fn aberrated(n: Night, v: Direction) -> Direction
-    requires { StepFits n v }
+fn aberrated(n: ReadyNight, v: Direction) -> Direction
+    requires { Accepted (squares v) }
     ensures { result ≡ rule.aberrated n v }
 {
-    let a = n.aberration;
+    let a = n.night.aberration;
     length::brought(sum(v, a))
 }
 
 // Part by part, without a return to length.
 fn sum(v: Direction, a: Direction) -> Direction
-    requires parts_le { PartsLe (2 ^ 60) v }
-    requires parts_le_2 { PartsLe (2 ^ 60) a }
+    requires direction_fits { PartsLe (2 ^ 60) v }
+    requires aberration_fits { PartsLe (2 ^ 60) a }
     ensures { result ≡ plus v a }
 {
     Direction {
@@ -76,13 +87,13 @@ fn sum(v: Direction, a: Direction) -> Direction
 }
 
 // 5. Nutation.
-fn nutated(n: Night, v: Direction) -> Direction
-    requires { StepFits n v }
+fn nutated(n: ReadyNight, v: Direction) -> Direction
+    requires { Accepted (squares v) }
     ensures { result ≡ rule.nutated n v }
 {
-    let minus_epsilon = n.minus_epsilon;
-    let delta_psi = n.delta_psi;
-    let true_epsilon = n.true_epsilon;
+    let minus_epsilon = n.night.minus_epsilon;
+    let delta_psi = n.night.delta_psi;
+    let true_epsilon = n.night.true_epsilon;
     turning::turn_by(
         turning::turn_by(turning::turn_by(v, 1, minus_epsilon), 3, delta_psi),
         1,
@@ -90,12 +101,14 @@ fn nutated(n: Night, v: Direction) -> Direction
     )
 }
 
-// The apparent direction of a star, after steps 1 to 5.
-pub fn apparent(n: Night, s: Star) -> Direction
-    requires { StarFits n s }
-    ensures { result ≡ rule.apparent n s }
+// The apparent direction of a star, after steps 1 to 5. Night and star stay two, here and above:
+// one night serves all stars.
+pub fn apparent(n: ReadyNight, s: Star) -> Direction
+    requires { star_refused s ≡ false }
+    ensures value { result ≡ rule.apparent n s }
+    ensures accepted { Accepted (squares result) }
 {
-    let t = n.tt;
+    let t = n.night.tt;
     let v = directed(
         moved(t, s.ra, s.ra_motion),
         moved(t, s.declination, s.declination_motion),
@@ -104,12 +117,13 @@ pub fn apparent(n: Night, s: Star) -> Direction
 }
 
 // 6. The direction seen from the site: z to the zenith, x to the south, y to the east.
-pub fn overhead(n: Night, v: Direction) -> Direction
-    requires { StepFits n v }
-    ensures { result ≡ rule.overhead n v }
+pub fn overhead(n: ReadyNight, v: Direction) -> Direction
+    requires { Accepted (squares v) }
+    ensures value { result ≡ rule.overhead n v }
+    ensures accepted { Accepted (squares result) }
 {
-    let minus_sidereal = n.minus_sidereal;
-    let latitude_less_quarter = n.latitude_less_quarter;
+    let minus_sidereal = n.night.minus_sidereal;
+    let latitude_less_quarter = n.night.latitude_less_quarter;
     turning::turn_by(
         turning::turn_by(v, 3, minus_sidereal),
         2,
@@ -119,8 +133,8 @@ pub fn overhead(n: Night, v: Direction) -> Direction
 
 // 5. Right ascension from (x, y) and declination; 6. azimuth from (-x, y) and altitude.
 pub fn readings(v: Direction, w: Direction) -> Place
-    requires accepted { Accepted (squares v) }
-    requires accepted_2 { Accepted (squares w) }
+    requires apparent_accepted { Accepted (squares v) }
+    requires overhead_accepted { Accepted (squares w) }
     ensures { result ≡ rule.readings v w }
 {
     Place {
@@ -132,7 +146,7 @@ pub fn readings(v: Direction, w: Direction) -> Place
 }
 
 // The reading of two parts of an accepted direction, which 32 bits hold.
-fn read(h: i64, v: i64) -> Read
+fn read(h: i64, v: i64) -> Option<i64>
     requires { PartsFit h v }
     ensures { result ≡ readings.reading h v }
 {

@@ -2,21 +2,23 @@
 
 ghost use Rattle.std.specs.Prelude.{◌≡◌};
 ghost use Rattle.rules.specs.Sun as rule;
-ghost use Rattle.laws.specs.Instant.{InRange};
 
-use polynomials::{instant_refused, quadratic};
-use rules::{Angle, Refusal, Tt};
+use polynomials::quadratic;
+use polynomials::range::{InRange, in_range};
+use rules::{Refusal, Tt};
 
 // The longitude of perihelion.
 //
 // Given: t, TT, from -Q to Q.
 // Returned: ϖ in µas.
 // Rule: docs/RULES.md, "Polynomials in time" (source 000, section 4.2.1).
-pub fn perihelion_of(t: Tt) -> i64
-    requires { InRange t.0 }
+//
+// It differs from the other polynomials in its coefficients alone: each is a rule of its own, by
+// its name.
+pub fn perihelion_of(t: InRange<Tt>) -> i64
     ensures { result ≡ rule.perihelion t }
 {
-    quadratic(t.0, 370574460000, 6190056000, 1656000)
+    quadratic(t.at.0, 370574460000, 6190056000, 1656000)
 }
 
 // The longitude of perihelion, at any instant.
@@ -24,11 +26,10 @@ pub fn perihelion_of(t: Tt) -> i64
 // Given: t, TT, any.
 // Returned: ϖ in µas, or refusal 12.
 // Rule: docs/RULES.md, "Polynomials in time".
-pub fn perihelion(t: Tt) -> Angle
+//
+// One like it stands for each angle: `polynomials::range::in_range` has what they share.
+pub fn perihelion(t: Tt) -> Result<i64, Refusal>
     ensures { result ≡ rule.perihelion_at t }
 {
-    if instant_refused(t.0) {
-        return Angle::Refused(Refusal::Instant);
-    }
-    Angle::Of(perihelion_of(t))
+    Ok(perihelion_of(in_range(t)?))
 }

@@ -1,18 +1,18 @@
 // What aberration adds, of the crate `night_pairs`.
 
 ghost use Rattle.std.specs.Prelude.{◌≡◌};
-ghost use Rattle.laws.specs.Instant.{InRange};
 ghost use Rattle.tests_functions.specs.InstantsGiven.{in_tt};
 ghost use Rattle.tests_functions.specs.Aberration.{aberration_at, aberration_given};
 ghost use Rattle.tests_functions.specs.Aberration.{tests_aberration};
 
 use circle::pair;
-use polynomials::instant_refused;
-use rules::{Refusal, Tt};
+use polynomials::range::{InRange, in_range};
+use rules::Tt;
 
-// The refusal's number and noughts, or 0, bx and by, and the three numbers that are added.
+// A Result for C: the refusal's number and noughts, or 0, bx and by, and the three numbers that are
+// added.
 #[repr(C)]
-#[derive(Clone, Copy)]
+#[derive(Clone, Copy, Default)]
 pub struct TestsAberration {
     pub refused: i64,
     pub bx: i64,
@@ -22,26 +22,22 @@ pub struct TestsAberration {
     pub z: i64,
 }
 
-// Aberration at a TT instant.
+// Aberration at a TT instant. A match and no `From`: bx and by stand in no value of the rules that
+// could be turned.
 pub fn tests_aberration(tt: i64) -> TestsAberration
     ensures { result ≡ tests_aberration (aberration_at (in_tt tt)) }
 {
-    if instant_refused(tt) {
-        return TestsAberration {
-            refused: refusals::number(Refusal::Instant),
-            bx: 0,
-            by: 0,
-            x: 0,
-            y: 0,
-            z: 0,
-        };
+    match in_range(Tt(tt)) {
+        Ok(t) => given_at(t),
+        Err(r) => TestsAberration {
+            refused: refusals::number(r),
+            ..Default::default()
+        },
     }
-    given_at(Tt(tt))
 }
 
 // The same of an instant that is not refused.
-fn given_at(t: Tt) -> TestsAberration
-    requires { InRange t.0 }
+fn given_at(t: InRange<Tt>) -> TestsAberration
     ensures { result ≡ tests_aberration (aberration_given t) }
 {
     let sun = pair(sun::sun_longitude_of(t));

@@ -10,10 +10,12 @@ ghost use Rattle.rules.specs.Sidereal.{sidereal_at, sidereal_polynomial};
 ghost use Rattle.tests_functions.specs.InstantsGiven.{in_tt, in_ut};
 ghost use Rattle.rules.specs.Polynomials.{angle_at};
 
-use polynomials::instant_refused;
-use rules::{Angle, Refusal, Tt, Ut};
+use answers::numbered;
+use polynomials::range::in_range;
+use rules::{Refusal, Tt, Ut};
 
-// The refusal's number and noughts, or 0 and the angle.
+// A Result for C: the refusal's number and noughts, or 0 and the angle. One like it stands for each
+// such number, since C names it.
 #[repr(C)]
 #[derive(Clone, Copy)]
 pub struct TestsAngle {
@@ -21,18 +23,12 @@ pub struct TestsAngle {
     pub angle: i64,
 }
 
-fn angle_out(a: Angle) -> TestsAngle
-    ensures { result ≡ tests_angle (angle_answer a) }
-{
-    match a {
-        Angle::Of(angle) => TestsAngle {
-            refused: 0,
-            angle: angle,
-        },
-        Angle::Refused(r) => TestsAngle {
-            refused: refusals::number(r),
-            angle: 0,
-        },
+impl From<Result<i64, Refusal>> for TestsAngle {
+    ghost from_gives = { λ a b. b ≡ tests_angle (angle_answer a) };
+
+    fn from(a: Result<i64, Refusal>) -> TestsAngle {
+        let (refused, angle) = numbered(a, 0);
+        TestsAngle { refused, angle }
     }
 }
 
@@ -40,46 +36,42 @@ fn angle_out(a: Angle) -> TestsAngle
 pub fn tests_obliquity(tt: i64) -> TestsAngle
     ensures { result ≡ tests_angle (angle_answer (obliquity_at (in_tt tt))) }
 {
-    angle_out(precession::obliquity(Tt(tt)))
+    precession::obliquity(Tt(tt)).into()
 }
 
 // The Sun's longitude at a TT instant.
 pub fn tests_sun(tt: i64) -> TestsAngle
     ensures { result ≡ tests_angle (angle_answer (sun_longitude_at (in_tt tt))) }
 {
-    angle_out(sun::sun_longitude(Tt(tt)))
+    sun::sun_longitude(Tt(tt)).into()
 }
 
 // The longitude of perihelion at a TT instant.
 pub fn tests_perihelion(tt: i64) -> TestsAngle
     ensures { result ≡ tests_angle (angle_answer (perihelion_at (in_tt tt))) }
 {
-    angle_out(sun::perihelion::perihelion(Tt(tt)))
+    sun::perihelion::perihelion(Tt(tt)).into()
 }
 
 // The sidereal angle at a UT instant.
 pub fn tests_sidereal(ut: i64) -> TestsAngle
     ensures { result ≡ tests_angle (angle_answer (sidereal_at (in_ut ut))) }
 {
-    angle_out(sidereal::sidereal(Ut(ut)))
+    sidereal::sidereal(Ut(ut)).into()
 }
 
 // The Sun's mean longitude at a TT instant.
 pub fn tests_mean_longitude(tt: i64) -> TestsAngle
     ensures { result ≡ tests_angle (angle_answer (angle_at tt (mean_longitude (in_tt tt)))) }
 {
-    if instant_refused(tt) {
-        return angle_out(Angle::Refused(Refusal::Instant));
-    }
-    angle_out(Angle::Of(sun::mean_longitude_of(Tt(tt))))
+    in_range(Tt(tt)).map(sun::mean_longitude_of).into()
 }
 
 // The sidereal polynomial at a UT instant.
 pub fn tests_sidereal_polynomial(ut: i64) -> TestsAngle
     ensures { result ≡ tests_angle (angle_answer (angle_at ut (sidereal_polynomial (in_ut ut)))) }
 {
-    if instant_refused(ut) {
-        return angle_out(Angle::Refused(Refusal::Instant));
-    }
-    angle_out(Angle::Of(sidereal::sidereal_polynomial_of(Ut(ut))))
+    in_range(Ut(ut))
+        .map(sidereal::sidereal_polynomial_of)
+        .into()
 }

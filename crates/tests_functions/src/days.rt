@@ -6,9 +6,11 @@ ghost use Rattle.tests_functions.specs.Dates.{tests_day, tests_date};
 ghost use Rattle.rules.specs.Calendar.{day_of, date_of};
 ghost use Rattle.tests_functions.specs.DatesGiven.{in_date};
 
-use rules::{Date, Dated, Numbered};
+use answers::numbered;
+use rules::{Date, Refusal};
 
-// The refusal's number and nought, or 0 and the day number.
+// A Result for C: the refusal's number and nought, or 0 and the day number. One like it stands for
+// each such number, since C names it.
 #[repr(C)]
 #[derive(Clone, Copy)]
 pub struct TestsDay {
@@ -16,9 +18,9 @@ pub struct TestsDay {
     pub day: i64,
 }
 
-// The refusal's number and noughts, or 0 and the date.
+// A Result for C: the refusal's number and noughts, or 0 and the date.
 #[repr(C)]
-#[derive(Clone, Copy)]
+#[derive(Clone, Copy, Default)]
 pub struct TestsDate {
     pub refused: i64,
     pub year: i64,
@@ -26,37 +28,31 @@ pub struct TestsDate {
     pub day: i64,
 }
 
-fn day_out(a: Numbered) -> TestsDay
-    ensures { result ≡ tests_day (numbered_answer a) }
-{
-    match a {
-        Numbered::Day(day) => TestsDay {
-            refused: 0,
-            day: day,
-        },
-        Numbered::Refused(r) => TestsDay {
-            refused: refusals::number(r),
-            day: 0,
-        },
+impl From<Result<i64, Refusal>> for TestsDay {
+    ghost from_gives = { λ a b. b ≡ tests_day (numbered_answer a) };
+
+    fn from(a: Result<i64, Refusal>) -> TestsDay {
+        let (refused, day) = numbered(a, 0);
+        TestsDay { refused, day }
     }
 }
 
-fn date_out(a: Dated) -> TestsDate
-    ensures { result ≡ tests_date (dated_answer a) }
-{
-    match a {
-        Dated::On(d) => TestsDate {
-            refused: 0,
-            year: d.year as i64,
-            month: d.month as i64,
-            day: d.day as i64,
-        },
-        Dated::Refused(r) => TestsDate {
-            refused: refusals::number(r),
-            year: 0,
-            month: 0,
-            day: 0,
-        },
+impl From<Result<Date, Refusal>> for TestsDate {
+    ghost from_gives = { λ a b. b ≡ tests_date (dated_answer a) };
+
+    fn from(a: Result<Date, Refusal>) -> TestsDate {
+        match a {
+            Ok(d) => TestsDate {
+                refused: 0,
+                year: i64::from(d.year),
+                month: i64::from(d.month),
+                day: i64::from(d.day),
+            },
+            Err(r) => TestsDate {
+                refused: refusals::number(r),
+                ..Default::default()
+            },
+        }
     }
 }
 
@@ -64,16 +60,12 @@ fn date_out(a: Dated) -> TestsDate
 pub fn tests_day_of(year: i32, month: i32, day: i32) -> TestsDay
     ensures { result ≡ tests_day (numbered_answer (day_of (in_date year month day))) }
 {
-    day_out(calendar::day_of(Date {
-        year: year,
-        month: month,
-        day: day,
-    }))
+    calendar::day_of(Date { year, month, day }).into()
 }
 
 // The date of a day number.
 pub fn tests_date_of(day: i64) -> TestsDate
     ensures { result ≡ tests_date (dated_answer (date_of day)) }
 {
-    date_out(calendar::date_of(day))
+    calendar::date_of(day).into()
 }

@@ -5,31 +5,33 @@ ghost use Rattle.rules.specs.Answers.{instants_answer};
 ghost use Rattle.tests_functions.specs.Dates.{tests_instants};
 ghost use Rattle.tests_functions.specs.DatesGiven.{instants_of};
 
-use rules::{Date, Instants, Moment, Time};
+use answers::given::moment_of;
+use rules::{Instants, Refusal};
 
-// The refusal's number and noughts, or 0 and UT, TT.
+// A Result for C: the refusal's number and noughts, or 0 and UT, TT.
 #[repr(C)]
-#[derive(Clone, Copy)]
+#[derive(Clone, Copy, Default)]
 pub struct TestsInstants {
     pub refused: i64,
     pub ut: i64,
     pub tt: i64,
 }
 
-fn instants_out(a: Instants) -> TestsInstants
-    ensures { result ≡ tests_instants (instants_answer a) }
-{
-    match a {
-        Instants::At(ut, tt) => TestsInstants {
-            refused: 0,
-            ut: ut.0,
-            tt: tt.0,
-        },
-        Instants::Refused(r) => TestsInstants {
-            refused: refusals::number(r),
-            ut: 0,
-            tt: 0,
-        },
+impl From<Result<Instants, Refusal>> for TestsInstants {
+    ghost from_gives = { λ a b. b ≡ tests_instants (instants_answer a) };
+
+    fn from(a: Result<Instants, Refusal>) -> TestsInstants {
+        match a {
+            Ok(at) => TestsInstants {
+                refused: 0,
+                ut: at.ut.0,
+                tt: at.tt.0,
+            },
+            Err(r) => TestsInstants {
+                refused: refusals::number(r),
+                ..Default::default()
+            },
+        }
     }
 }
 
@@ -46,18 +48,6 @@ pub fn tests_instants(
 ) -> TestsInstants
     ensures { result ≡ instants_of year month day hour minute second ms ut1_minus_utc }
 {
-    instants_out(instants::instants(Moment {
-        date: Date {
-            year: year,
-            month: month,
-            day: day,
-        },
-        time: Time {
-            hour: hour,
-            minute: minute,
-            second: second,
-            ms: ms,
-        },
-        ut1_minus_utc: ut1_minus_utc,
-    }))
+    let moment = moment_of(year, month, day, hour, minute, second, ms, ut1_minus_utc);
+    instants::instants(moment).into()
 }

@@ -1,10 +1,12 @@
-// The whole-number work of the crate `whole`.
+// The whole-number work of the crates `whole`, `rounding` and `roots`.
 
-ghost use Rattle.std.specs.Prelude.{◌≡◌};
-ghost use Rattle.tests_functions.specs.Numbers.{rnd_quotient_tried, rnd_product_quotient_tried};
-ghost use Rattle.tests_functions.specs.Numbers.{product_tried, whole_root_tried, on_circle_tried};
+ghost use Rattle.std.specs.Prelude.{◌≡◌, pos, is_some, unwrap_or};
+ghost use Rattle.tests_functions.specs.Numbers.{tried, rnd_quotient_tried};
+ghost use Rattle.tests_functions.specs.Numbers.{rnd_product_quotient_tried, product_tried};
+ghost use Rattle.tests_functions.specs.Numbers.{whole_root_tried, on_circle_tried};
 
-// What a rule gives: met is 1 and value its answer where its conditions hold, else both are 0.
+// An Option for C, what a rule gives: met is 1 and value its answer where its conditions hold, else
+// both are 0.
 #[repr(C)]
 #[derive(Clone, Copy)]
 pub struct Tried {
@@ -12,7 +14,16 @@ pub struct Tried {
     pub value: i64,
 }
 
-const NONE: Tried = Tried { met: 0, value: 0 };
+impl From<Option<i64>> for Tried {
+    ghost from_gives = { λ a b. b ≡ tried (is_some a) (unwrap_or a (pos 0)) };
+
+    fn from(a: Option<i64>) -> Tried {
+        Tried {
+            met: i64::from(a.is_some()),
+            value: a.unwrap_or(0),
+        }
+    }
+}
 
 // 2^42, 2^60, 2^61, 2^62.
 const MOST_A: i64 = 4398046511104;
@@ -27,36 +38,23 @@ const MOST_DIVISOR: i64 = 4611686018427387904;
 pub fn tests_rnd_quotient(a: i64, b: i64) -> Tried
     ensures { result ≡ rnd_quotient_tried a b }
 {
-    if !whole::is_between(1, MOST_DIVISOR, b) {
-        return NONE;
-    }
-    Tried {
-        met: 1,
-        value: rounding::rnd_quotient(a, b),
-    }
+    let is_met = whole::is_between(1, MOST_DIVISOR, b);
+    is_met.then(|| rounding::rnd_quotient(a, b)).into()
 }
 
 // The whole root of n, for n not negative.
 pub fn tests_whole_root(n: i64) -> Tried
     ensures { result ≡ whole_root_tried n }
 {
-    if n < 0 {
-        return NONE;
-    }
-    Tried {
-        met: 1,
-        value: roots::whole_root(n),
-    }
+    (n >= 0).then(|| roots::whole_root(n)).into()
 }
 
 // a modulo C.
+#[tactic(auto, unfolding(crate::specs::Numbers::tried, crate::specs::Numbers::on_circle_tried))]
 pub fn tests_on_circle(a: i64) -> Tried
     ensures { result ≡ on_circle_tried a }
 {
-    Tried {
-        met: 1,
-        value: whole::on_circle(a),
-    }
+    Some(whole::on_circle(a)).into()
 }
 
 // Rnd(a * b / d), for d from 1 to 2^42, a to 2^42 and b to 2^60 in size, b to 2^61 / (|a / d| + 1)
@@ -64,14 +62,10 @@ pub fn tests_on_circle(a: i64) -> Tried
 pub fn tests_rnd_product_quotient(a: i64, b: i64, d: i64) -> Tried
     ensures { result ≡ rnd_product_quotient_tried a b d }
 {
-    if !product_fits(a, b, d) {
-        return NONE;
-    }
-    let quotient = rounding::rnd_product_quotient(a, b, d);
-    Tried {
-        met: 1,
-        value: quotient,
-    }
+    let is_met = product_fits(a, b, d);
+    is_met
+        .then(|| rounding::rnd_product_quotient(a, b, d))
+        .into()
 }
 
 // Whether the conditions of the carried product hold.

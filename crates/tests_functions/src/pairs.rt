@@ -3,7 +3,7 @@
 ghost use Rattle.std.specs.Prelude.{◌≡◌};
 ghost use Rattle.tests_functions.specs.Pairs.{tests_pair};
 
-// Cosine and sine, in parts of 2^30.
+// Cosine and sine, in parts of 2^30. It is C's own: `rules::Pair` has no layout that C knows.
 #[repr(C)]
 #[derive(Clone, Copy)]
 pub struct TestsPair {

@@ -2,7 +2,8 @@
 
 ghost use Rattle.std.specs.Prelude.{◌≡◌};
 ghost use Rattle.rules.specs.Answers.{precessed_answer, five_arguments_answer, nutated_answer};
-ghost use Rattle.tests_functions.specs.Angles.{tests_precessed, tests_five_arguments, tests_nutated};
+ghost use Rattle.tests_functions.specs.Angles.{tests_precessed, tests_five_arguments};
+ghost use Rattle.tests_functions.specs.Angles.{tests_nutated};
 ghost use Rattle.rules.specs.Precession.{precession_at};
 ghost use Rattle.rules.specs.Arguments.{arguments_at};
 ghost use Rattle.rules.specs.Nutation.{nutation_at};

@@ -1,4 +1,4 @@
-// The whole-number work of the crate `whole`.
+// The whole-number work of the crates `whole`, `rounding` and `roots`.
 
 ghost use Rattle.std.specs.Prelude.{◌≡◌};
 ghost use Rattle.tests_functions.specs.Numbers.{rnd_quotient_tried, rnd_product_quotient_tried};

@@ -11,11 +11,12 @@ ghost use Rattle.rules.specs.NightList.{night_list, entries_after_night};
 ghost use Rattle.answers.specs.Given.{moment_of, site_of};
 ghost use Rattle.answers.specs.Answers.{counted_out};
 
-use answers::lists::{TurbelicusCounted, counted_out};
+use answers::given::moment_of;
+use answers::lists::TurbelicusCounted;
 use entries_read::read_list;
 use entries_write::write_list;
 use night_list::night_list;
-use rules::{Date, Entry, Moment, Site, Time};
+use rules::{Entry, Site};
 
 // A list file read into entries.
 pub fn tests_list_read(file: &[u8], entries: &mut [Entry]) -> TurbelicusCounted
@@ -23,7 +24,7 @@ pub fn tests_list_read(file: &[u8], entries: &mut [Entry]) -> TurbelicusCounted
         (list_read file.now entries.old)))
         × (entries.new ≡ entries_after_read file.now entries.old) }
 {
-    counted_out(read_list(file, entries))
+    read_list(file, entries).into()
 }
 
 // The stars of entries written as a list file.
@@ -32,7 +33,7 @@ pub fn tests_list_write(entries: &[Entry], room: &mut [u8]) -> TurbelicusCounted
         (list_written entries.now room.old)))
         × (room.new ≡ room_after_write entries.now room.old) }
 {
-    counted_out(write_list(entries, room))
+    write_list(entries, room).into()
 }
 
 // A night list, worked where it stands.
@@ -57,39 +58,9 @@ pub fn tests_night_list(
         (site_of latitude longitude) entries.old) }
 {
     let moment = moment_of(year, month, day, hour, minute, second, ms, ut1_minus_utc);
-    let site = site_of(latitude, longitude);
-    counted_out(night_list(moment, site, entries))
-}
-
-fn moment_of(
-    year: i32,
-    month: i32,
-    day: i32,
-    hour: i32,
-    minute: i32,
-    second: i32,
-    ms: i32,
-    ut1_minus_utc: i32,
-) -> Moment
-    ensures { result ≡ moment_of year month day hour minute second ms ut1_minus_utc }
-{
-    Moment {
-        date: Date { year, month, day },
-        time: Time {
-            hour,
-            minute,
-            second,
-            ms,
-        },
-        ut1_minus_utc,
-    }
-}
-
-fn site_of(latitude: i64, longitude: i64) -> Site
-    ensures { result ≡ site_of latitude longitude }
-{
-    Site {
+    let site = Site {
         latitude,
         longitude,
-    }
+    };
+    night_list(moment, site, entries).into()
 }

@@ -1,6 +1,7 @@
 #![tactic(auto)]
 
-// The exports of `tests_lists`, as an archive for the tests alone. It is not shipped.
+// The exports of `tests_lists`, as an archive for the tests alone. It is not shipped. Each stands
+// here again because C's linker asks for an export, and no crate above can call one.
 
 ghost use Rattle.std.specs.Prelude.{◌≡◌};
 ghost use Rattle.rules.specs.Answers.{listed_answer};

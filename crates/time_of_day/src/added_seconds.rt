@@ -37,23 +37,23 @@ const STEPS: [i64; 27] = [
     6210, // 2017-01-01
 ];
 
-// TAI-UTC in s on a day.
+// TAI-UTC in s on a day. A `for`: a `count` of a `filter` is no plainer, and the compiler works
+// this one several steps at once.
 pub fn tai_minus_utc(day: i64) -> i64
     ensures { result ≡ pos (rule.tai_minus_utc day) }
 {
-    let steps = STEPS;
-    let mut seconds: i64 = 10;
-    let mut k: usize = 0;
-    while k < 27 {
-        if steps[k] <= day {
+    let mut seconds = 10;
+    for step in &STEPS {
+        if *step <= day {
             seconds += 1;
         }
-        k += 1;
     }
     seconds
 }
 
-// Whether a day is the day before a step.
+// Whether a day is the day before a step. That it is a day of the span stays a clause, here and in
+// what calls it: `calendar::day_of` answers a number, and a type would be made of it and taken
+// apart again in `instants`, its one caller.
 fn before_step(day: i64) -> bool
     requires { nat_abs day ≤ 36524 }
     ensures { result ≡ rule.before_step day }
@@ -62,15 +62,14 @@ fn before_step(day: i64) -> bool
 }
 
 // The last second of a minute: 60 only at 23:59 of the day before a step.
+#[tactic(auto, using(crate::proofs::Equal::equal, crate::proofs::Equal::not_equal), unfolding(rules::specs::Dates::last_second))]
 pub fn last_second(day: i64, hour: i64, minute: i64) -> i64
     requires { nat_abs day ≤ 36524 }
     ensures { result ≡ pos (rule.last_second day (time_of_parts hour minute (pos 0) (pos 0))) }
 {
-    if hour != 23 {
-        return 59;
+    if hour == 23 && minute == 59 && before_step(day) {
+        60
+    } else {
+        59
     }
-    if minute != 59 {
-        return 59;
-    }
-    if before_step(day) { 60 } else { 59 }
 }

@@ -8,35 +8,31 @@ ghost use Rattle.laws.specs.Instants.{RealTime, InstantParts};
 ghost use Rattle.laws.specs.OfNumbers.{time_of_parts, utc_at, instants_at};
 
 use crate::added_seconds::{last_second, tai_minus_utc};
-use rules::{Instants, Tt, Ut};
+use rules::{Instants, Time, Tt, Ut};
 use whole::is_between;
 
 mod added_seconds;
 pub mod days;
 
-// Whether there is no such time on a day.
+// Whether there is no such time on a day. Any five numbers are told from a time, so they are no
+// `Time`, whose parts are narrower.
 pub fn time_refused(day: i64, hour: i64, minute: i64, second: i64, ms: i64) -> bool
     requires { nat_abs day ≤ 36524 }
     ensures { result ≡ rule.time_refused day (time_of_parts hour minute second ms) }
 {
-    if !is_between(0, 23, hour) {
-        return true;
-    }
-    if !is_between(0, 59, minute) {
-        return true;
-    }
-    if !is_between(0, last_second(day, hour, minute), second) {
-        return true;
-    }
-    !is_between(0, 999, ms)
+    !is_between(0, 23, hour)
+        || !is_between(0, 59, minute)
+        || !is_between(0, last_second(day, hour, minute), second)
+        || !is_between(0, 999, ms)
 }
 
 // The ms of day.
-pub fn ms_of_day(hour: i64, minute: i64, second: i64, ms: i64) -> i64
-    requires { RealTime (time_of_parts hour minute second ms) }
-    ensures { result ≡ rule.ms_of_day (time_of_parts hour minute second ms) }
+pub fn ms_of_day(time: Time) -> i64
+    requires { RealTime time }
+    ensures { result ≡ rule.ms_of_day time }
 {
-    ((hour * 60 + minute) * 60 + second) * 1000 + ms
+    let minutes = i64::from(time.hour) * 60 + i64::from(time.minute);
+    (minutes * 60 + i64::from(time.second)) * 1000 + i64::from(time.ms)
 }
 
 // What UT and TT begin with: the ms from noon of day 0.
@@ -54,5 +50,8 @@ pub fn instants_at(day: i64, ms: i64, ut1_minus_utc: i64) -> Instants
 {
     let utc = utc_ms(day, ms);
     let tt = utc + (32_184 + 1000 * tai_minus_utc(day));
-    Instants::At(Ut(utc + ut1_minus_utc), Tt(tt))
+    Instants {
+        ut: Ut(utc + ut1_minus_utc),
+        tt: Tt(tt),
+    }
 }

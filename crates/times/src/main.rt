@@ -8,9 +8,11 @@ use line_reads::Program;
 use std::env::FillError;
 use std::rt::Env;
 
+// A word after the program's name is told in each program: a public function for both would have
+// nothing to promise.
 fn main(rt: HostRuntime) {
-    let first = rt.arg(1, &mut []);
-    if !matches!(first, Err(FillError::NotPresent)) {
+    if !matches!(rt.arg(1, &mut []), Err(FillError::NotPresent)) {
+        // what cannot be said is lost
         let _ = eprintln!(rt; "usage: times < FILE");
         return;
     }

@@ -6,7 +6,7 @@ ghost use Rattle.std.specs.Prelude.{◌≡◌, not};
 ghost use Rattle.rules.specs.Turning.{turn_refused, turn_by, turned};
 ghost use Rattle.axes.specs.Given.{TurnFits};
 
-use rules::{Direction, Pair, Refusal, Turned};
+use rules::{Direction, Pair, Refusal};
 use units::CIRCLE;
 
 // v turned about an axis, with the angle's pair at hand, and brought to length.
@@ -27,20 +27,22 @@ pub fn turn_by(v: Direction, axis: i64, p: Pair) -> Direction
 // Returned: an accepted direction; refused 7 where v is not accepted, 8 where axis or angle is not.
 // Rule: docs/RULES.md, "Turns, readings, place".
 //
-// Refusal 13 never comes: the length of what is turned is within 5 of 2^30.
-pub fn turn(v: Direction, axis: i64, angle: i64) -> Turned
+// Refusal 13 never comes: the length of what is turned is within 5 of 2^30. The axis is a number,
+// as it comes from C: one that is none of the three is refused 8 here, by its number.
+pub fn turn(v: Direction, axis: i64, angle: i64) -> Result<Direction, Refusal>
     ensures { result ≡ turned axis angle v }
 {
     if !length::accepted(v) {
-        return Turned::Refused(Refusal::Direction);
+        return Err(Refusal::Direction);
     }
     if !is_turn(axis, angle) {
-        return Turned::Refused(Refusal::Turn);
+        return Err(Refusal::Turn);
     }
-    Turned::To(turn_by(v, axis, circle::pair(angle)))
+    Ok(turn_by(v, axis, circle::pair(angle)))
 }
 
-// Whether axis is 1 to 3, and angle strictly between -C and C.
+// Whether axis is 1 to 3, and angle strictly between -C and C. This is the test of C's number, so
+// it takes no type of three axes.
 fn is_turn(axis: i64, angle: i64) -> bool
     ensures { result ≡ not (turn_refused axis angle) }
 {

@@ -11,11 +11,7 @@ fn minutes_of_day(ms: i64) -> i64
     requires { InRange 0 86400999 ms }
     ensures { result ≡ pos (rule.minutes_of_day (nat_abs ms)) }
 {
-    let minutes = ms / 60_000;
-    if minutes < 1440 {
-        return minutes;
-    }
-    1439
+    (ms / 60_000).min(1439)
 }
 
 // The time at a ms of day.

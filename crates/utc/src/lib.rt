@@ -9,7 +9,7 @@ ghost use Rattle.laws.specs.Stretch.{InStretch};
 use crate::clock::time_of_ms;
 use crate::span::days_of_span;
 use calendar::counts::date_at;
-use rules::{Clocked, Refusal, Tt, Utc};
+use rules::{Refusal, Tt, Utc};
 use time_of_day::days::ms_before;
 use whole::is_between;
 
@@ -34,11 +34,11 @@ fn utc_at(tt: i64) -> Utc
 // Given: any number.
 // Returned: the one UTC time that has this TT, with second 60 where it belongs; or refusal 20.
 // Rule: docs/RULES.md, "UTC of a TT instant". UT1-UTC plays no part.
-pub fn utc_of_tt(tt: Tt) -> Clocked
+pub fn utc_of_tt(tt: Tt) -> Result<Utc, Refusal>
     ensures { result ≡ rule.utc_of_tt tt }
 {
     if !is_between(-883_655_957_816, 3_155_716_869_183, tt.0) {
-        return Clocked::Refused(Refusal::Stretch);
+        return Err(Refusal::Stretch);
     }
-    Clocked::At(utc_at(tt.0))
+    Ok(utc_at(tt.0))
 }

@@ -15,7 +15,8 @@ pub fn days_of_span(tt: i64) -> i64
     let count = tt + 883_655_957_816;
     let most = count / 86_400_000;
     if ms_before(most) <= count {
-        return most;
+        most
+    } else {
+        most - 1
     }
-    most - 1
 }

@@ -1,10 +1,10 @@
 // The weather record that C keeps: it may hand back anything, so each call looks at it again.
 
-ghost use Rattle.std.specs.Prelude.{◌≡◌, if◌then◌else◌};
+ghost use Rattle.std.specs.Prelude.{◌≡◌};
 ghost use Rattle.rules.specs.Weather as rule;
 
 use crate::{is_pressure, is_temperature, take};
-use rules::{Reading, Weather, Weathered};
+use rules::{Reading, Weather};
 
 // The record before any reading: nothing has come, and the fields are the formula's own weather.
 fn no_weather() -> Weather
@@ -18,23 +18,23 @@ fn no_weather() -> Weather
     }
 }
 
-// A field that has come, or what it is before.
-fn come_or(has: bool, x: f32, before: f32) -> f32
-    ensures { result ≡ (if has then x else before) }
-{
-    if has { x } else { before }
-}
-
 // A record with each field that has not come set to what it is before any reading.
 fn mended(w: Weather) -> Weather
     ensures { result ≡ rule.mended w }
 {
     let start = no_weather();
     Weather {
-        pressure: come_or(w.has_pressure, w.pressure, start.pressure),
-        temperature: come_or(w.has_temperature, w.temperature, start.temperature),
-        has_pressure: w.has_pressure,
-        has_temperature: w.has_temperature,
+        pressure: if w.has_pressure {
+            w.pressure
+        } else {
+            start.pressure
+        },
+        temperature: if w.has_temperature {
+            w.temperature
+        } else {
+            start.temperature
+        },
+        ..w
     }
 }
 
@@ -44,16 +44,17 @@ fn mended(w: Weather) -> Weather
 // Returned: the record with its fields in range; or as it was, where one that has come is not
 // accepted.
 // Rule: docs/RULES.md, "Refraction", the record that C keeps.
-pub fn recorded(w: Weather) -> Weathered
+//
+// The error is the record as it was, and no refusal: the clause says which record C gets back.
+pub fn recorded(w: Weather) -> Result<Weather, Weather>
     ensures { result ≡ rule.recorded w }
 {
     let m = mended(w);
-    if is_pressure(m.pressure) {
-        if is_temperature(m.temperature) {
-            return Weathered::Now(m);
-        }
+    if is_pressure(m.pressure) && is_temperature(m.temperature) {
+        Ok(m)
+    } else {
+        Err(w)
     }
-    Weathered::Refused(w)
 }
 
 // A record that C kept, with one more reading.
@@ -62,22 +63,11 @@ pub fn recorded(w: Weather) -> Weathered
 // Returned: the record with the reading and its fields in range; or as it was, where either is
 // refused.
 // Rule: docs/RULES.md, "Refraction", the record that C keeps.
-pub fn take_from(w: Weather, r: Reading) -> Weathered
+//
+// The error is the record as it was, and no refusal: the clause says which record C gets back.
+pub fn take_from(w: Weather, r: Reading) -> Result<Weather, Weather>
     ensures { result ≡ rule.taken_from w r }
 {
-    let given = recorded(w);
-    match given {
-        Weathered::Now(v) => stay(w, take(v, r)),
-        Weathered::Refused(_) => Weathered::Refused(w),
-    }
-}
-
-// w, where the answer is a refusal.
-fn stay(w: Weather, a: Weathered) -> Weathered
-    ensures { result ≡ rule.stays w a }
-{
-    match a {
-        Weathered::Now(v) => Weathered::Now(v),
-        Weathered::Refused(_) => Weathered::Refused(w),
-    }
+    let v = recorded(w)?;
+    take(v, r).map_err(|_| w)
 }

@@ -9,11 +9,13 @@ ghost use Rattle.rules.specs.Weather as rule;
 ghost use Rattle.laws.specs.Tenths.{Small};
 
 use rounding::rnd_by_unit;
-use rules::{Reading, Weather, Weathered};
+use rules::{Reading, Weather};
 
 pub mod kept;
 
-// Whether a pressure in hPa is accepted: a NaN and an infinity fail one of the two tests.
+// Whether a pressure in hPa is accepted: a NaN and an infinity fail one of the two tests. Each
+// range, this and the next, is the document's own; as `contains` of a range of floats, which
+// answers by `partial_cmp`, the proof did not close.
 fn is_pressure(x: f32) -> bool
     ensures { result ≡ rule.is_pressure x }
 {
@@ -42,33 +44,23 @@ pub fn tenths(x: f32) -> i64
     rnd_by_unit(10 * std::num::truncating_f64_to_i64((x as f64) * 1073741824.0))
 }
 
-// The record with one more reading, or as it was, where the reading is refused.
-fn take(w: Weather, r: Reading) -> Weathered
+// The record with one more reading, or as it was, where the reading is refused. The error is the
+// record as it was: the clauses of `take_from` say which record C gets back.
+fn take(w: Weather, r: Reading) -> Result<Weather, Weather>
     ensures { result ≡ rule.taken w r }
 {
     match r {
-        Reading::Pressure(p) => {
-            if is_pressure(p) {
-                return Weathered::Now(Weather {
-                    pressure: p,
-                    temperature: w.temperature,
-                    has_pressure: true,
-                    has_temperature: w.has_temperature,
-                });
-            }
-            Weathered::Refused(w)
-        }
-        Reading::Temperature(t) => {
-            if is_temperature(t) {
-                return Weathered::Now(Weather {
-                    pressure: w.pressure,
-                    temperature: t,
-                    has_pressure: w.has_pressure,
-                    has_temperature: true,
-                });
-            }
-            Weathered::Refused(w)
-        }
-        Reading::Nothing => Weathered::Now(w),
+        Reading::Pressure(pressure) if is_pressure(pressure) => Ok(Weather {
+            pressure,
+            has_pressure: true,
+            ..w
+        }),
+        Reading::Temperature(temperature) if is_temperature(temperature) => Ok(Weather {
+            temperature,
+            has_temperature: true,
+            ..w
+        }),
+        Reading::Nothing => Ok(w),
+        _ => Err(w),
     }
 }

@@ -1,7 +1,7 @@
 -- What 64 bits hold, with a bound on its size: `Holds n z b` says that the bits n are the integer z, and |z| ≤ b.
 -- A need of a signed operation is answered by the operation's `-ok` from what its operands hold, and the operation
 -- itself says what its result holds: `add_ok h k tt`, `add h k tt`. The bounds compute, so that `tt` shows the fit.
---   a parameter or a field: `arg`; one known to be a natural: `nat`; an i32 made an i64: `widened`
+--   a parameter or a field: `arg`; one known to be a natural: `nat`; an i32 made an i64: `widened`, by `from`: `from_i32`
 --   a call's result, by its `ensures`: `got`; a literal: `lit`; a better bound: `bounded`; the opposite: `negate`
 --   where the operands' bounds do not show the fit: `add_to`, `sub_to`, `mul_to` with a bound of the result's own
 use Rattle.std.specs.Prelude.{◌≡◌, refl, ℕ, zero, suc, ◌+◌, ◌*◌, ◌-◌, ◌/◌, ◌≤◌, ◌<◌, ◌^◌, T, ltb, ℤ, pos, negsuc, neg_ℤ, nat_abs, ◌+ℤ◌, ◌-ℤ◌, ◌*ℤ◌, ◌<ℤ◌}
@@ -69,6 +69,10 @@ widened_ok z f = rw (to_z-of_z f) (widened_fits z f)
 
 pub widened : (z : ℤ) → SFits w32 z → Holds (widen (of_z w32 z)) z (2 ^ 31)
 widened z f = record { value = rw (to_z-of_z f) (to_z-of_z (widened_fits z f)); size = size32 z f }
+
+-- an i32 made an i64 by `from`
+pub from_i32 : (z r : ℤ) → SFits w32 z → r ≡ to_z w32 (of_z w32 z) → Holds (bits r) z (2 ^ 31)
+from_i32 z r f e = rw e (widened z f)
 
 -- a better bound
 pub bounded : {n : ℕ} {z : ℤ} {b : ℕ} (a : ℕ) → Holds n z b → nat_abs z ≤ a → Holds n z a

@@ -1,109 +1,77 @@
--- `arcs::arc_factor` meets its contract: what is answered after each stage is the row so far.
-use Prim.Native.Nat.{ℕ}
-use lib.Dec.{lit<, lit≤}
-use lib.IntN.{ℤ, pos}
-use lib.ListN.{take}
-use lib.Signed.{lt_z_yes}
+-- `arcs::arc_factor` meets its contract: p is the row so far, from nought to a whole.
+use Rattle.std.specs.Prelude.{◌≡◌, refl, ◌<◌, T, List, [], ◌∷◌, ℕ, zero, suc, map, take, length, get_or, ℤ, pos, nat_abs}
+use Rattle.std.proofs.Common.{sym, ap, ◌∙◌, arith, rules}
+use native.Mathlib.Numerals.{add-one}
 use Rattle.rules.specs.Units.{unit}
 use Rattle.rules.specs.Rounding.{rnd, rnd_size}
 use Rattle.rules.specs.Reading as rule
+use Rattle.laws.specs.UpTo.{UpTo, up_to_of_le}
 use Rattle.laws.specs.Arc.{first_range}
-use Rattle.series.proofs.Stages.{SoFar, held, stage_asks, arc_stage_tells}
+use Rattle.laws.specs.RoundedStages.{rises, rises_first, rises_le, one_stage_range, stages_of_arc}
+use Rattle.words.specs.Fits.{held64}
+use Rattle.series.specs.Given.{EachFits}
+use Rattle.series.proofs.Stages.{fits_at, w_held, k_held}
 use Rattle.arcs.proofs.arc_factor.Goals as goal
 
--- r is what the first n stages give, the last of them that of k
-abbrev After : goal.Start → ℕ → ℕ → ℤ → Type 0
-After s n k r =
-    SoFar s.args.w r (rule.arc_stages s.args.w (take n rule.arc_row) (rnd (pos unit) 23)) (rnd_size unit k)
+-- the row as the code has it
+abbrev row : List ℤ
+row = pos 21 ∷ pos 19 ∷ pos 17 ∷ pos 15 ∷ pos 13 ∷ pos 11 ∷ pos 9 ∷ pos 7 ∷ pos 5 ∷ pos 3 ∷ pos 1 ∷ []
 
-pub rnd_quotient-p-requires : goal.rnd_quotient-p-requires
-rnd_quotient-p-requires c = record { pos_bound = lt_z_yes tt; b_bound = lit≤ tt }
+row_fits : EachFits row
+row_fits = search rules
 
-after_0 : (c : goal.After-rnd_quotient-p) → After c.before 0 23 c.rnd_quotient-p.result
-unfolding rule.arc_stages rnd_size
-after_0 c = record {
-  w_range = c.requires;
-  value = c.rnd_quotient-p.ensures;
-  range = first_range;
-  bound_le = lit≤ tt;
-}
+-- the row so far, with one stage more
+one_more : (w : ℤ) (ks : List ℤ) (i : ℕ) (p : ℤ) → i < length ks
+    → rule.arc_stages w (take (suc i) (map nat_abs ks)) p
+    ≡ rule.arc_stage w (nat_abs (get_or ks i (pos 0))) (rule.arc_stages w (take i (map nat_abs ks)) p)
+unfolding rule.arc_stages
+one_more w [] i p h = absurd (omega arith)
+one_more w (k ∷ ks) zero p h = refl
+one_more w (k ∷ ks) (suc i) p h = one_more w ks i (rule.arc_stage w (nat_abs k) p) (omega arith)
+
+-- and its range
+so_far_range : (w : ℤ) (js : List ℕ) (i : ℕ) (p : ℤ) (b : ℕ) → UpTo w unit → T (rises (stages_of_arc js) b) → UpTo p b
+    → UpTo (rule.arc_stages w (take i js) p) unit
+unfolding rule.arc_stages rule.arc_stage
+so_far_range w js zero p b h r u = up_to_of_le p b unit (rises_le (stages_of_arc js) b r) u
+so_far_range w [] (suc i) p b h r u = up_to_of_le p b unit (rises_le [] b r) u
+so_far_range w (j ∷ js) (suc i) p b h r u =
+    let t = rises_first j 1 b (rises (stages_of_arc js) (rnd_size unit j)) r in
+    so_far_range w js i (rule.arc_stage w j p) (rnd_size unit j) h t.next (one_stage_range w p b j 1 h u t.rise t.k_pos)
+
+abbrev first : ℤ
+first = rnd (pos unit) 23
+
+range_at : (w : ℤ) (i : ℕ) → UpTo w unit → UpTo (rule.arc_stages w (take i rule.arc_row) first) unit
+unfolding rnd_size
+range_at w i h = so_far_range w rule.arc_row i first (rnd_size unit 23) h tt first_range
+
+pub loop-k-init : goal.loop-k-init
+unfolding rule.arc_stages
+loop-k-init c = record { so_far = held64 c.rnd_quotient-p.result c.rnd_quotient-p.type_inv ∙ c.rnd_quotient-p.ensures }
 
 pub arc_stage-p-requires : goal.arc_stage-p-requires
-arc_stage-p-requires c = stage_asks (after_0 c) (lit< tt) (lit≤ tt)
+arc_stage-p-requires c =
+    let i = c.loop-k.k-index in
+    let k = fits_at row row_fits i c.loop-k-test.true in
+    let w = w_held c.args.w c.requires in
+    rw (w, k_held _ k.1, rw w at c.loop-k.invariant.so_far)
+    (record { w_range = c.requires; p_range = range_at c.args.w i c.requires; k_pos = k.0; k_range = k.1 })
 
-after_1 : (c : goal.After-arc_stage-p) → After c.before.before 1 21 c.arc_stage-p.result
-unfolding rule.arc_stages rnd_size
-after_1 c = arc_stage_tells (after_0 c.before) 21 tt c.arc_stage-p.ensures
-
-pub arc_stage-p-requires-2 : goal.arc_stage-p-requires-2
-arc_stage-p-requires-2 c = stage_asks (after_1 c) (lit< tt) (lit≤ tt)
-
-after_2 : (c : goal.After-arc_stage-p-2) → After c.before.before.before 2 19 c.arc_stage-p-2.result
-unfolding rule.arc_stages rnd_size
-after_2 c = arc_stage_tells (after_1 c.before) 19 tt c.arc_stage-p-2.ensures
-
-pub arc_stage-p-requires-3 : goal.arc_stage-p-requires-3
-arc_stage-p-requires-3 c = stage_asks (after_2 c) (lit< tt) (lit≤ tt)
-
-after_3 : (c : goal.After-arc_stage-p-3) → After c.before.before.before.before 3 17 c.arc_stage-p-3.result
-unfolding rule.arc_stages rnd_size
-after_3 c = arc_stage_tells (after_2 c.before) 17 tt c.arc_stage-p-3.ensures
-
-pub arc_stage-p-requires-4 : goal.arc_stage-p-requires-4
-arc_stage-p-requires-4 c = stage_asks (after_3 c) (lit< tt) (lit≤ tt)
-
-after_4 : (c : goal.After-arc_stage-p-4) → After c.before.before.before.before.before 4 15 c.arc_stage-p-4.result
-unfolding rule.arc_stages rnd_size
-after_4 c = arc_stage_tells (after_3 c.before) 15 tt c.arc_stage-p-4.ensures
-
-pub arc_stage-p-requires-5 : goal.arc_stage-p-requires-5
-arc_stage-p-requires-5 c = stage_asks (after_4 c) (lit< tt) (lit≤ tt)
-
-after_5 : (c : goal.After-arc_stage-p-5) → After c.before.before.before.before.before.before 5 13 c.arc_stage-p-5.result
-unfolding rule.arc_stages rnd_size
-after_5 c = arc_stage_tells (after_4 c.before) 13 tt c.arc_stage-p-5.ensures
-
-pub arc_stage-p-requires-6 : goal.arc_stage-p-requires-6
-arc_stage-p-requires-6 c = stage_asks (after_5 c) (lit< tt) (lit≤ tt)
-
-after_6 : (c : goal.After-arc_stage-p-6) → After c.before.before.before.before.before.before.before 6 11 c.arc_stage-p-6.result
-unfolding rule.arc_stages rnd_size
-after_6 c = arc_stage_tells (after_5 c.before) 11 tt c.arc_stage-p-6.ensures
-
-pub arc_stage-p-requires-7 : goal.arc_stage-p-requires-7
-arc_stage-p-requires-7 c = stage_asks (after_6 c) (lit< tt) (lit≤ tt)
-
-after_7 : (c : goal.After-arc_stage-p-7) → After c.before.before.before.before.before.before.before.before 7 9 c.arc_stage-p-7.result
-unfolding rule.arc_stages rnd_size
-after_7 c = arc_stage_tells (after_6 c.before) 9 tt c.arc_stage-p-7.ensures
-
-pub arc_stage-p-requires-8 : goal.arc_stage-p-requires-8
-arc_stage-p-requires-8 c = stage_asks (after_7 c) (lit< tt) (lit≤ tt)
-
-after_8 : (c : goal.After-arc_stage-p-8) → After c.before.before.before.before.before.before.before.before.before 8 7 c.arc_stage-p-8.result
-unfolding rule.arc_stages rnd_size
-after_8 c = arc_stage_tells (after_7 c.before) 7 tt c.arc_stage-p-8.ensures
-
-pub arc_stage-p-requires-9 : goal.arc_stage-p-requires-9
-arc_stage-p-requires-9 c = stage_asks (after_8 c) (lit< tt) (lit≤ tt)
-
-after_9 : (c : goal.After-arc_stage-p-9) → After c.before.before.before.before.before.before.before.before.before.before 9 5 c.arc_stage-p-9.result
-unfolding rule.arc_stages rnd_size
-after_9 c = arc_stage_tells (after_8 c.before) 5 tt c.arc_stage-p-9.ensures
-
-pub arc_stage-p-requires-10 : goal.arc_stage-p-requires-10
-arc_stage-p-requires-10 c = stage_asks (after_9 c) (lit< tt) (lit≤ tt)
-
-after_10 : (c : goal.After-arc_stage-p-10) → After c.before.before.before.before.before.before.before.before.before.before.before 10 3 c.arc_stage-p-10.result
-unfolding rule.arc_stages rnd_size
-after_10 c = arc_stage_tells (after_9 c.before) 3 tt c.arc_stage-p-10.ensures
-
-pub arc_stage-requires : goal.arc_stage-requires
-arc_stage-requires c = stage_asks (after_10 c) (lit< tt) (lit≤ tt)
-
-after_11 : (c : goal.After-arc_stage) → After c.before.before.before.before.before.before.before.before.before.before.before.before 11 1 c.arc_stage.result
-unfolding rule.arc_stages rnd_size
-after_11 c = arc_stage_tells (after_10 c.before) 1 tt c.arc_stage.ensures
+pub loop-k-preserved : goal.loop-k-preserved
+loop-k-preserved c =
+    let i = c.loop-k.k-index in
+    let k = fits_at row row_fits i c.loop-k-test.true in
+    let w = w_held c.args.w c.requires in
+    let is = rw (w, k_held _ k.1, rw w at c.loop-k.invariant.so_far) at c.arc_stage-p.ensures in
+    rw w (record {
+      so_far = held64 c.arc_stage-p.result c.arc_stage-p.type_inv ∙ is
+          ∙ sym (one_more c.args.w row i first c.loop-k-test.true)
+          ∙ ap (λ (n : ℕ). rule.arc_stages c.args.w (take n rule.arc_row) first) (sym (add-one i));
+    })
 
 pub returns : goal.returns
-returns c = held (after_11 c)
+returns c =
+    let all : c.loop-k.k-index ≡ 11 = omega arith in
+    rw (w_held c.args.w c.requires) at c.loop-k.invariant.so_far
+    ∙ ap (λ (i : ℕ). rule.arc_stages c.args.w (take i rule.arc_row) first) all

@@ -1,21 +1,9 @@
 -- `arguments::sun_of` meets its contract.
-use mathlib.Core.Path.{◌≡◌, ◌∙◌}
-use borrow.Author.Rules.{rules}
-use mir.Syntax.{w64}
-use mir.Val.{to_z, of_z}
+use Rattle.std.proofs.Common.{◌∙◌, rules}
 use Rattle.rules.specs.Arguments.{arguments}
 use Rattle.polynomials.proofs.Held.{instant_held}
 use Rattle.arguments.proofs.sun_of.Goals as goal
-use Rattle.arguments.proofs.sun_of.Lts as lts
-use Rattle.arguments.proofs.sun_of.Tie as tie
-use Rattle.arguments.proofs.sun_of.Reads as reads
-
-t_held : (c : lts.Start tie.the-claims reads.Pre reads.Post) → to_z w64 (of_z w64 c.args.t.0) ≡ c.args.t.0
-t_held c = instant_held c.args.t.0 c.requires
-
-pub cubic-requires : goal.cubic-requires
-cubic-requires c = search rules
 
 pub returns : goal.returns
 unfolding arguments
-returns c = search rules ∙ simp t_held at c.cubic.ensures
+returns c = rw (← c.t.view_is) (search rules ∙ rw (instant_held c.t.inside.at.0 c.t.invariant) at c.cubic.ensures)

@@ -4,18 +4,14 @@ use Prim.Native.Nat.{◌+◌}
 use native.Mathlib.Omega.{arith}
 use lib.IntN.{ℤ, pos, neg_ℤ, ◌+ℤ◌}
 use mir.Facts.{to_z-of_z}
-use borrow.Author.Rules.{rules}
-use borrow.Author.Tests.{not-true, not-false}
 use Rattle.words.specs.Holds.{Holds, bits, ◌+ʷ◌, lit, arg, add, add_ok}
 use Rattle.rules.specs.Calendar.{number_refused, date_of}
-use Rattle.rules.specs.declared.Dated.{Dated}
 use Rattle.laws.specs.Units.{between_parts}
 use Rattle.laws.specs.Ranges.{Between, le_of_sizes, between_iff}
 use Rattle.laws.specs.DayNumbers.{InSpan, in_span, number_le, date_of_number_is}
 use Rattle.calendar.proofs.date_of.Goals as goal
-
-pub is_between-requires : goal.is_between-requires
-is_between-requires c = search rules
+use Rattle.calendar.proofs.date_of.Goals.{Else-not-is_between}
+use Rattle.std.specs.Prelude.{Ok}
 
 pub returns-then-not-is_between : goal.returns-then-not-is_between
 unfolding date_of number_refused
@@ -23,7 +19,7 @@ returns-then-not-is_between c =
     let past = c.before in
     rw (sym (rw (to_z-of_z past.before.ranges.n) at past.is_between.ensures) ∙ c.if-not-is_between.true)
 
-module _ (c : goal.Else-not-is_between) where
+module _ (c : Else-not-is_between) where
   abbrev n : ℤ
   n = c.before.before.args.n
 
@@ -57,4 +53,4 @@ pub returns : goal.returns
 unfolding date_of number_refused
 returns c =
     rw ((between_iff _ _ _).1 (passed c.before))
-    (ap Dated.On (rw (count c.before).value at c.date_at.ensures ∙ sym (date_of_number_is _)))
+    (ap Ok (rw (count c.before).value at c.date_at.ensures ∙ sym (date_of_number_is _)))

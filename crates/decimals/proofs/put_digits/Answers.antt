@@ -1,75 +1,64 @@
--- `decimals::put_digits` meets its contract. What is done, with the digits left, is the whole; the measure is the
--- digits left.
-use mathlib.Core.Path.{◌≡◌, refl, ◌∙◌}
-use Prim.Native.Nat.{◌+◌, ◌-◌, ◌%◌, ◌≤◌, ◌<◌}
-use native.Mathlib.Omega.{arith}
-use lib.Dec.{lit<}
-use lib.IntN.{ℤ, pos, nat_abs}
-use lib.ListN.{length, length-set}
-use lib.Signed.{quot_z, lt_z_yes}
-use mir.Syntax.{w64}
-use mir.Val.{SFits, to_z}
-use mir.Facts.{to_z-of_z}
-use borrow.Author.Rules.{rules}
+-- `decimals::put_digits` meets its contract: the digits are put from the last on, and turned round at the end.
+use Rattle.std.specs.Prelude.{◌≡◌, refl, List, [], ◌++◌, ℕ, ◌+◌, ◌-◌, ℤ, pos, nat_abs, length, take, drop, reverse}
+use Rattle.std.proofs.Common.{sym, ap, ◌∙◌, arith, append-nil, to_z, to_z-of_z, SFits}
+use Rattle.std.proofs.Math.Facts.{sfits_to_z}
+use Rattle.std.proofs.Math.Seq.{take-append_seam, drop-append_seam, take-length, drop-length}
+use Rattle.std.proofs.lemmas.List.{reverse-reverse, length-append, length-reverse}
+use Rattle.std.specs.Int.{w64}
+use Rattle.std.specs.Int.Signed.{quot_z, lt_z_yes}
+use Rattle.std.specs.List.{refill}
 use Rattle.integers.specs.Quotient.{abs_quot}
-use Rattle.words.specs.Holds.{bits}
 use Rattle.words.specs.Fits.{quot_fits}
-use Rattle.laws.specs.PuttingBytes.{written, written_step, written_end, written_is}
+use Rattle.laws.specs.Decimal.{last_digits}
+use Rattle.decimals.proofs.Digits.{left_none, left_more}
 use Rattle.decimals.proofs.put_digits.Goals as goal
-use Rattle.decimals.proofs.put_digits.Lts as lts
-use Rattle.decimals.proofs.put_digits.Reads as reads
-use Rattle.decimals.proofs.put_digits.Tie as tie
 
-n_is : (c : lts.Start tie.the-claims reads.Pre reads.Post goal.the-invariant-loop-i goal.the-decreases-loop-i) → to_z w64 (bits c.args.n) ≡ c.args.n
-n_is c = to_z-of_z c.ranges.n
-
-pub loop-i-init : goal.loop-i-init
-loop-i-init c = ((omega arith, rw (n_is c.before.before) c.before.before.ranges.n), (refl, refl))
-
--- a tenth of the rest
-module _ (c : lts.At-loop tie.the-claims reads.Pre reads.Post goal.the-invariant-loop-i goal.the-decreases-loop-i) where
-  abbrev rest : ℤ
-  rest = to_z w64 c.loop-i.rest-bits
-
-  tenth : SFits w64 (quot_z rest (pos 10))
-  tenth = quot_fits rest (pos 10) c.loop-i.invariant.0.1 (lt_z_yes tt)
-
-pub overflow_sub-i : goal.overflow_sub-i
-overflow_sub-i c = omega arith
-
-pub last_digit-requires : goal.last_digit-requires
-last_digit-requires c = search rules
-
-pub overflow_add-out : goal.overflow_add-out
-overflow_add-out c = omega arith
-
-pub bounds-out-at : goal.bounds-out-at
-bounds-out-at c = omega arith
-
-pub nonzero_div-rest : goal.nonzero_div-rest
-nonzero_div-rest c = (lit< tt, tenth c.before.before)
-
-pub loop-i-smaller : goal.loop-i-smaller
-loop-i-smaller c = omega arith
-
-pub loop-i-preserved : goal.loop-i-preserved
-loop-i-preserved c =
-    let a = c.before.before in
-    let p = a.before.before.args in
-    rw (to_z-of_z (tenth a), abs_quot (rest a) (pos 10), c.last_digit.ensures) (
-      (omega arith, tenth a),
+pub loop-preserved : goal.loop-preserved
+loop-preserved g c =
+    let r : ℤ = to_z w64 c.loop.rest-bits in
+    let f : SFits w64 (quot_z r (pos 10)) = quot_fits r (pos 10) (sfits_to_z c.loop.auto.rest-fits) (lt_z_yes tt) in
+    let k = c.args.k in
+    let i = c.loop.counter in
+    let q : k - (i + 1) ≡ (k - i) - 1 = omega arith in (
+      omega arith,
       (
-        length-set a.loop-i.out (p.at + (a.loop-i.i - 1)) (48 + nat_abs (rest a) % 10) ∙ a.loop-i.invariant.1.0,
-        written_step a.loop-i.i (nat_abs (rest a)) p.at a.loop-i.out _ (omega arith) a.loop-i.invariant.1.1,
+        omega (arith, c.push.ensures.len, c.loop.invariant.1.0),
+        rw (to_z-of_z f, abs_quot r (pos 10), q, c.push.ensures.items, c.last_digit.ensures)
+            (left_more c.loop.out.items (k - i) (nat_abs r) (omega arith))
+            ∙ c.loop.invariant.1.1,
       ),
     )
 
-pub shape_of-out : goal.shape_of-out
-shape_of-out c = c.before.loop-i.invariant.1.0
+-- as many elements put in place of all are those
+full : (xs ws : List ℕ) → length ws ≡ length xs → refill (length xs) xs ws ≡ ws
+full xs ws l =
+    let d : drop (length ws) xs ≡ [] = rw l (drop-length xs) in
+    rw (d, append-nil ws, sym l) (take-length ws)
 
-pub returns : goal.returns
-returns c =
-    let a = c.before in
-    let s = a.before.before in
-    written_end a.loop-i.i (nat_abs (rest a)) s.args.at a.loop-i.out _ (omega arith) a.loop-i.invariant.1.1
-    ∙ rw (n_is s) (written_is s.args.k (nat_abs s.args.n) s.args.at s.args.out.now s.requires)
+-- what stands after the first f elements, turned round
+turned : (old there s r : List ℕ) (f : ℕ) → f ≡ length old → s ≡ old ++ there → r ≡ reverse (take (length s - f) (drop f s))
+    → refill (length s) s (take f s ++ (r ++ drop (length s - f) (drop f s))) ≡ old ++ reverse there
+turned old there s r f h e k =
+    let l : length (old ++ there) - length old ≡ length there = omega (arith, length-append old there) in
+    let q : r ≡ reverse there =
+    k ∙ rw (h, e, l, drop-append_seam old there, take-length there) refl in
+    let w : length (old ++ (reverse there ++ [])) ≡ length (old ++ there) =
+    rw (append-nil (reverse there), length-append old (reverse there), length-append old there, length-reverse there) refl in
+    rw (h, e, l, drop-append_seam old there, take-append_seam old there, drop-length there, q)
+    (full (old ++ there) (old ++ (reverse there ++ [])) w ∙ ap (λ x. old ++ x) (append-nil (reverse there)))
+
+pub returns-clause-items : goal.returns-clause-items
+returns-clause-items g c =
+    let old : List ℕ = c.args.out.now.items in
+    let there : List ℕ = c.loop.out.items in
+    let k = c.args.k in
+    let n = nat_abs c.args.n in
+    let digits = last_digits k n in
+    let left = k - c.loop.counter in
+    let r = nat_abs (to_z w64 c.loop.rest-bits) in
+    let whole = rw (to_z-of_z c.ranges.n) at c.loop.invariant.1.1 in
+    let e : there ≡ old ++ reverse digits = sym (left_none there left r (omega arith) ∙ append-nil there) ∙ whole in
+    let a = c.as_mut_slice.ensures.value in
+    let after = rw a at c.reverse.ensures.after in
+    rw a (turned old (reverse digits) there c.reverse.new.self c.len-front.result c.len-front.ensures.value e after)
+    ∙ ap (λ x. old ++ x) (reverse-reverse digits)

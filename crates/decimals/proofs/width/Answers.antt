@@ -1,87 +1,44 @@
--- `decimals::width` meets its contract. The digits counted, and those of the rest, are one more than the answer; the
--- measure is the digits that may come.
-use mathlib.Core.Path.{◌≡◌, refl, ◌∙◌}
-use Prim.Native.Nat.{ℕ, ◌+◌, ◌-◌, ◌/◌, ◌≤◌}
-use native.Mathlib.Omega.{arith}
-use mathlib.Core.Bool.{Bool, true, false}
-use lib.Dec.{ltb}
-use lib.IntN.{ℤ, pos, negsuc, nat_abs}
-use lib.Signed.{quot_z, lt_z_yes}
-use mir.Syntax.{w64}
-use mir.Val.{SFits, to_z, of_z}
-use mir.Facts.{to_z-of_z}
-use borrow.Author.Tests.{ltb-true, ltb-false}
+-- `decimals::width` meets its contract.
+use Rattle.std.specs.Prelude.{◌≡◌, refl, Bool, true, false, ltb, ℕ, ◌/◌, ◌^◌, ◌≤◌, ℤ, pos, nat_abs, ◌≤ℤ◌}
+use Rattle.std.proofs.Common.{sym, ap, ◌∙◌, arith, lit<, to_z, of_z, to_z-of_z, ltb-true, ltb-false}
+use Rattle.std.proofs.Math.Nat.{pow-le-pow_right}
+use Rattle.std.proofs.lemmas.Int.{ints}
+use Rattle.std.specs.Int.{w64}
+use Rattle.std.specs.Int.Signed.{quot_z, lt_z_yes}
 use Rattle.integers.specs.Quotient.{abs_quot}
-use Rattle.words.specs.Holds.{bits}
-use Rattle.words.specs.Fits.{quot_fits}
-use Rattle.laws.specs.Decimal as law
+use Rattle.words.specs.Fits.{fits64, size64, quot_fits}
+use Rattle.decimals.proofs.Digits.{width_one, width_more}
 use Rattle.decimals.proofs.width.Goals as goal
-use Rattle.decimals.proofs.width.Lts as lts
-use Rattle.decimals.proofs.width.Reads as reads
 
--- a tenth of the rest
-module _ (c : lts.At-loop reads.Pre reads.Post goal.the-invariant-loop-k goal.the-decreases-loop-k) where
-  abbrev rest : ℤ
-  rest = to_z w64 c.loop-k.rest-bits
-
-  tenth : SFits w64 (quot_z rest (pos 10))
-  tenth = quot_fits rest (pos 10) c.loop-k.invariant.1.0 (lt_z_yes tt)
-
-of_nought : (z : ℤ) → SFits w64 z → of_z w64 z ≡ 0 → nat_abs z ≡ 0
-of_nought (pos n) f e = e
-of_nought (negsuc n) f e = absurd (omega (arith, f.sfits))
-
-to_nought : (z : ℤ) → nat_abs z ≡ 0 → of_z w64 z ≡ 0
-to_nought (pos n) e = e
-to_nought (negsuc n) e = absurd (omega arith)
-
-above : (n : ℕ) → (n / 10 ≡ 0 → ⊥) → 10 ≤ n
-above n f = go (ltb n 10) refl
+-- a tenth of a number of 64 bits has at most 18 digits
+at_most : (k n : ℕ) → n ≤ 2 ^ 63 → 10 ^ k ≤ n / 10 → k ≤ 17
+at_most k n h l = go (ltb 17 k) refl
   where
-    go : (b : Bool) → ltb n 10 ≡ b → 10 ≤ n
-    go true e = let h = ltb-true n 10 e in absurd (f (omega arith))
-    go false e = ltb-false n 10 e
+    go : (b : Bool) → ltb 17 k ≡ b → k ≤ 17
+    go true e = absurd (omega (arith, pow-le-pow_right {n = 10} (lit< tt) {i = 18} {j = k} (ltb-true 17 k e)))
+    go false e = ltb-false 17 k e
 
-n_is : (c : goal.Start) → to_z w64 (bits c.args.n) ≡ c.args.n
-n_is c = to_z-of_z c.ranges.n
+-- the size of a tenth, as the word holds it
+tenth_is : (n r : ℤ) → nat_abs n ≤ 2 ^ 63 → r ≡ pos (nat_abs (quot_z n (pos 10))) → to_z w64 (of_z w64 r) ≡ pos (nat_abs n / 10)
+tenth_is n r h e =
+    let q : r ≡ pos (nat_abs n / 10) = e ∙ ap pos (abs_quot n (pos 10)) in
+    rw q (to_z-of_z (fits64 (pos (nat_abs n / 10)) (omega arith)))
 
--- what is counted in the end
-counted : (c : lts.At-loop reads.Pre reads.Post goal.the-invariant-loop-k goal.the-decreases-loop-k) → c.loop-k.k + 1
-    ≡ 1 + law.width 18 (nat_abs (to_z w64 (bits c.before.args.n)))
-    → c.loop-k.k ≡ law.width 18 (nat_abs c.before.args.n)
-counted c e = let f = rw (n_is c.before) at e in omega arith
+pub returns-in-Some : goal.returns-in-Some
+returns-in-Some c =
+    let n = c.args.n in
+    let s = size64 n c.ranges.n in
+    let t = quot_fits n (pos 10) c.ranges.n (lt_z_yes tt) in
+    let is = tenth_is n c.abs.result s (rw (to_z-of_z c.ranges.n, to_z-of_z t) at c.abs.ensures.value) in
+    let l = rw is at c.in-Some.ensures.power_le in
+    let m = rw is at c.in-Some.ensures.next_power_gt in
+    sym (width_more c.in-Some.k (nat_abs n) (at_most c.in-Some.k (nat_abs n) s l) l m)
 
-pub returns-then-next-eq0 : goal.returns-then-next-eq0
-returns-then-next-eq0 c =
-    let a = c.before.before in
-    let q = of_nought (quot_z (rest a) (pos 10)) (tenth a) c.if-next-eq0.true in
-    counted a (law.width_last a.loop-k.k (nat_abs (rest a)) _ (omega arith)
-    (omega (arith, abs_quot (rest a) (pos 10))) a.loop-k.invariant.1.1)
-
-pub loop-k-preserved : goal.loop-k-preserved
-loop-k-preserved c =
-    let a = c.before.before in
-    let l : 10 ≤ nat_abs (rest a) =
-    above (nat_abs (rest a)) (λ q. c.if-next-eq0.false (to_nought (quot_z (rest a) (pos 10)) (abs_quot (rest a) (pos 10) ∙ q)))
-    in
-    rw (to_z-of_z (tenth a), abs_quot (rest a) (pos 10)) (
-      (omega arith, omega arith),
-      (tenth a, law.width_step a.loop-k.k (nat_abs (rest a)) _ (omega arith) l a.loop-k.invariant.1.1),
-    )
-
-pub returns : goal.returns
-returns c =
-    let a = c.before in
-    counted a (law.width_end a.loop-k.k (nat_abs (rest a)) _ (omega arith) a.loop-k.invariant.1.1)
-
-pub loop-k-init : goal.loop-k-init
-loop-k-init c = ((omega arith, omega arith), (rw (to_z-of_z c.ranges.n) c.ranges.n, refl))
-
-pub nonzero_div-next : goal.nonzero_div-next
-nonzero_div-next c = (omega arith, tenth c.before)
-
-pub overflow_add-k : goal.overflow_add-k
-overflow_add-k c = omega arith
-
-pub loop-k-smaller : goal.loop-k-smaller
-loop-k-smaller c = omega arith
+pub returns-in-None : goal.returns-in-None
+returns-in-None c =
+    let n = c.args.n in
+    let s = size64 n c.ranges.n in
+    let t = quot_fits n (pos 10) c.ranges.n (lt_z_yes tt) in
+    let is = tenth_is n c.abs.result s (rw (to_z-of_z c.ranges.n, to_z-of_z t) at c.abs.ensures.value) in
+    let l : pos (nat_abs n / 10) ≤ℤ pos 0 = rw is at c.in-None.ensures.none in
+    sym (width_one (nat_abs n) (omega (arith, ints, l)))

@@ -1,51 +1,74 @@
-use Rattle.std.proofs.Common.{◌≡◌, ap, ◌∙◌, arith, ◌++◌, drop, set, refl}
-use Rattle.rules.specs.ListFile.{stars_in}
-use Rattle.entries_read.proofs.Reading.{read_entries, read_stored, read_within, read_few, read_long, read_after, read_answer}
+-- `entries_read::read_list` meets its contract.
+use Rattle.std.proofs.Common.{rules, ◌≡◌, sym, ◌∙◌, ap, arith, ◌++◌, ◌<◌, ◌≤◌, drop, take, set, length}
+use Rattle.std.proofs.Math.Seq.{take-length}
+use Rattle.rules.specs.ListFile.{head_length}
+use Rattle.rules.specs.ListReading.{list_read}
+use Rattle.laws.specs.ListFile.{read_kept}
+use Rattle.entries_read.proofs.Reading.{read_entries, read_stored, read_within, read_long, read_count, read_after}
 use Rattle.entries_read.proofs.read_list.Goals as goal
 
-pub loop-i-init : goal.loop-i-init
-unfolding stars_in
-loop-i-init c = (omega arith, refl)
+pub returns-in_err-count : goal.returns-in_err-count
+unfolding list_read
+returns-in_err-count c =
+    let e = sym c.in_err-count.ensures in
+    (rw e (search rules), sym (read_kept c.args.file.now c.args.entries.now _ e))
 
-pub entry_at-entry-requires : goal.entry_at-entry-requires
-entry_at-entry-requires c =
-    let long = read_long c.args.file.now c.args.entries.now c.read_plan-plan.result c.read_plan-plan.ensures
-    (omega (arith, c.loop-i-test.true)) in
-    omega (arith, long, c.loop-i-test.true)
+pub slice_bounds-as_chunks-count : goal.slice_bounds-as_chunks-count
+slice_bounds-as_chunks-count c =
+    omega (arith, read_long c.args.file.now c.args.entries.now c.in_ok-count.count (sym c.in_ok-count.ensures))
 
-pub offset_bounds-entries-i : goal.offset_bounds-entries-i
-offset_bounds-entries-i c =
-    let few = read_few c.args.file.now c.args.entries.now c.read_plan-plan.result c.read_plan-plan.ensures in
-    record { fits = omega (arith, few, c.loop-i-test.true) }
+pub slice_bounds-as_chunks-start : goal.slice_bounds-as_chunks-start
+slice_bounds-as_chunks-start c =
+    let long = read_long c.args.file.now c.args.entries.now c.in_ok-count.count (sym c.in_ok-count.ensures) in
+    let headed : head_length ≤ length c.args.file.now = omega (arith, long) in
+    search rules
 
 pub bounds-entries-i : goal.bounds-entries-i
 bounds-entries-i c =
+    let file = c.args.file.now in
+    let entries = c.args.entries.now in
+    let count = c.in_ok-count.count in
+    let answer = sym c.in_ok-count.ensures in
     omega (
       arith,
-      read_within c.args.file.now c.args.entries.now c.read_plan-plan.result c.read_plan-plan.ensures,
       c.loop-i-test.true,
       c.loop-i.auto.entries,
+      c.as_chunks.ensures.front_len,
+      read_count file entries count answer,
+      read_within file entries count answer,
     )
 
 pub loop-i-preserved : goal.loop-i-preserved
 loop-i-preserved c =
-    let file = c.args.file.now in
+    let records = c.as_chunks.result.0.now in
     let entries = c.args.entries.now in
     let i = c.loop-i.i in
-    let within = read_within file entries c.read_plan-plan.result c.read_plan-plan.ensures in (
-      omega (arith, c.loop-i-test.true),
-      ap (λ r. set r i c.entry_at-entry.result) c.loop-i.invariant.1
-          ∙ ap (λ y. set (read_entries file i ++ drop i entries) i y) c.entry_at-entry.ensures
-          ∙ read_stored file i entries (omega (arith, within, c.loop-i-test.true)),
-    )
+    let count = c.in_ok-count.count in
+    let answer = sym c.in_ok-count.ensures in
+    let within : i < length entries = omega (
+      arith,
+      c.loop-i-test.true,
+      c.as_chunks.ensures.front_len,
+      read_count c.args.file.now entries count answer,
+      read_within c.args.file.now entries count answer,
+    ) in
+    ap (λ r. set r i c.entry_in.result) c.loop-i.invariant
+    ∙ ap (λ y. set (read_entries (take i records) ++ drop i entries) i y) c.entry_in.ensures
+    ∙ read_stored records i entries c.loop-i-test.true within
 
 pub returns : goal.returns
+unfolding list_read
 returns c =
     let file = c.args.file.now in
     let entries = c.args.entries.now in
-    let plan = c.read_plan-plan.result in
-    let all : c.loop-i.i ≡ plan.todo = omega (arith, c.loop-i.invariant.0, c.loop-i-test.false) in (
-      c.answer_of.ensures ∙ read_answer file entries plan c.read_plan-plan.ensures,
-      c.loop-i.invariant.1 ∙ ap (λ k. read_entries file k ++ drop k entries) all
-          ∙ read_after file entries plan c.read_plan-plan.ensures,
+    let records = c.as_chunks.result.0.now in
+    let count = c.in_ok-count.count in
+    let answer = sym c.in_ok-count.ensures in
+    let all : c.loop-i.i ≡ length records = omega arith in
+    let many = all ∙ c.as_chunks.ensures.front_len ∙ read_count file entries count answer in (
+      c.in_ok-count.ensures,
+      c.loop-i.invariant
+          ∙ (λ j. read_entries (take (all j) records) ++ drop (many j) entries)
+          ∙ ap (λ rs. read_entries rs ++ drop count entries) (take-length records ∙ c.as_chunks.ensures.front)
+          ∙ read_after file entries count answer,
     )

@@ -1,69 +1,73 @@
-use Rattle.std.proofs.Common.{◌≡◌, ◌∙◌, ap, sym, refl, length, take, arith, Bool}
-use Rattle.entries_write_checks.specs.Plans.{write_plan}
-use Rattle.entries_write.proofs.Writing.{put_all, put_next, write_within, write_long, write_few}
-use Rattle.entries_write.proofs.Writing.{write_ready, write_answer, write_after}
+-- `entries_write::write_list` meets its contract.
+use Rattle.std.proofs.Common.{rules, ◌≡◌, sym, ◌∙◌, ap, arith, ◌≤◌, length, length-drop, take}
+use Rattle.std.proofs.lemmas.List.{take_rest}
+use Rattle.std.proofs.Math.Seq.{take-length}
+use Rattle.rules.specs.ListFile.{head_length, record_at}
+use Rattle.rules.specs.ListWriting.{stars_of, list_written}
+use Rattle.laws.specs.FileLength.{records, head_of}
+use Rattle.laws.specs.ListFile.{write_kept}
+use Rattle.list_bytes.specs.Puts.{put, put_none}
+use Rattle.entries_write.proofs.Writing.{put_turn, write_few, write_fits, write_after}
 use Rattle.entries_write.proofs.write_list.Goals as goal
 
+pub returns-in_err-length : goal.returns-in_err-length
+unfolding list_written
+returns-in_err-length c =
+    let e = sym c.in_err-length.ensures in
+    (rw e (search rules), sym (write_kept c.args.entries.now c.args.room.now _ e))
+
 pub loop-i-init : goal.loop-i-init
-loop-i-init c = (omega arith, refl)
+unfolding stars_of
+loop-i-init c = put_none c.args.room.now head_length
 
-pub offset_bounds-entries-i : goal.offset_bounds-entries-i
-offset_bounds-entries-i c =
-    let xs = c.args.entries.now in
-    let room = c.args.room.now in
-    let planned = c.write_plan-plan.ensures
-    ∙ ap (λ (b : Bool). write_plan b (length xs) (length room)) c.any_refused-refused.ensures in
-    record {
-      fits = omega (arith, c.loop-i-test.true, write_few xs room c.write_plan-plan.result planned);
-    }
+pub slice_bounds-put_record-count : goal.slice_bounds-put_record-count
+unfolding list_written
+slice_bounds-put_record-count c =
+    let fits = write_fits c.args.entries.now c.args.room.now c.in_ok-length.length (sym c.in_ok-length.ensures) in
+    omega (arith, fits, c.loop-i.auto.room, c.loop-i-test.true)
 
-pub bounds-entries-i : goal.bounds-entries-i
-bounds-entries-i c =
-    let xs = c.args.entries.now in
-    let room = c.args.room.now in
-    let planned = c.write_plan-plan.ensures
-    ∙ ap (λ (b : Bool). write_plan b (length xs) (length room)) c.any_refused-refused.ensures in
-    omega (arith, c.loop-i-test.true, write_within xs room c.write_plan-plan.result planned)
+pub slice_bounds-put_record-start : goal.slice_bounds-put_record-start
+unfolding list_written
+slice_bounds-put_record-start c =
+    let fits = write_fits c.args.entries.now c.args.room.now c.in_ok-length.length (sym c.in_ok-length.ensures) in
+    let l : record_at c.loop-i.i ≤ length c.loop-i.room = omega (arith, fits, c.loop-i.auto.room, c.loop-i-test.true) in
+    search rules
 
-pub put_record-i-requires : goal.put_record-i-requires
-put_record-i-requires c =
-    let xs = c.args.entries.now in
-    let room = c.args.room.now in
-    let planned = c.write_plan-plan.ensures
-    ∙ ap (λ (b : Bool). write_plan b (length xs) (length room)) c.any_refused-refused.ensures in
-    let long = write_long xs room c.write_plan-plan.result planned (omega (arith, c.loop-i-test.true)) in
-    omega (arith, c.loop-i-test.true, long, c.loop-i.auto.room)
+pub put_record-requires : goal.put_record-requires
+unfolding list_written
+put_record-requires c =
+    let fits = write_fits c.args.entries.now c.args.room.now c.in_ok-length.length (sym c.in_ok-length.ensures) in
+    rw (take_rest c.loop-i.room (record_at c.loop-i.i))
+    (omega (arith, length-drop (record_at c.loop-i.i) c.loop-i.room, fits, c.loop-i.auto.room, c.loop-i-test.true))
 
 pub loop-i-preserved : goal.loop-i-preserved
+unfolding list_written
 loop-i-preserved c =
-    let xs = c.args.entries.now in
     let room = c.args.room.now in
-    let planned = c.write_plan-plan.ensures
-    ∙ ap (λ (b : Bool). write_plan b (length xs) (length room)) c.any_refused-refused.ensures in
-    let within = write_within xs room c.write_plan-plan.result planned in (
-      omega (arith, c.put_record-i.ensures.0, c.loop-i-test.true),
-      c.put_record-i.ensures.1
-          ∙ put_next c.loop-i.i xs _ room c.loop-i.room (omega (arith, c.loop-i-test.true, within)) c.loop-i.invariant.1
-          ∙ ap (λ k. put_all 0 (take k xs) room) (sym c.put_record-i.ensures.0),
+    let entries = c.args.entries.now in
+    put_turn room c.loop-i.room _ entries c.loop-i.i _ c.loop-i-test.true
+    (write_fits entries room c.in_ok-length.length (sym c.in_ok-length.ensures)) c.loop-i.auto.room c.loop-i.invariant
+    c.put_record.ensures
+
+pub put_head-requires : goal.put_head-requires
+unfolding list_written
+put_head-requires c =
+    let entries = c.args.entries.now in
+    let room = c.args.room.now in
+    let answer = sym c.in_ok-length.ensures in (
+      omega (arith, write_fits entries room c.in_ok-length.length answer, c.loop-i.auto.room),
+      write_few entries room c.in_ok-length.length answer,
     )
 
-pub finish-requires : goal.finish-requires
-finish-requires c =
-    let xs = c.args.entries.now in
-    let room = c.args.room.now in
-    let planned = c.write_plan-plan.ensures
-    ∙ ap (λ (b : Bool). write_plan b (length xs) (length room)) c.any_refused-refused.ensures in
-    write_ready xs room c.write_plan-plan.result planned c.loop-i.room c.loop-i.auto.room
-
 pub returns : goal.returns
+unfolding list_written
 returns c =
-    let xs = c.args.entries.now in
+    let entries = c.args.entries.now in
     let room = c.args.room.now in
-    let plan = c.write_plan-plan.result in
-    let planned = c.write_plan-plan.ensures
-    ∙ ap (λ (b : Bool). write_plan b (length xs) (length room)) c.any_refused-refused.ensures in
-    let all : c.loop-i.i ≡ plan.todo = omega (arith, c.loop-i.invariant.0, c.loop-i-test.false) in
-    let put_is = c.loop-i.invariant.1 ∙ ap (λ k. put_all 0 (take k xs) room) all in (
-      c.finish.ensures.0 ∙ write_answer xs room plan planned,
-      c.finish.ensures.1 ∙ write_after xs room plan planned c.loop-i.room put_is,
+    let all : c.loop-i.i ≡ length entries = omega arith in (
+      c.in_ok-length.ensures,
+      c.put_head.ensures
+          ∙ ap (λ r. put r 0 (head_of (length entries))) (c.loop-i.invariant
+          ∙ ap (λ es. put room head_length (records (stars_of es))) (ap (λ n. take n entries) all ∙ take-length entries))
+          ∙ write_after entries room c.in_ok-length.length (sym c.in_ok-length.ensures),
     )

@@ -1,35 +1,20 @@
 -- `length::accepted` meets its contract: a part out of reach is refused, and else no square passes the word.
-use Prim.Native.Nat.{ℕ, ◌+◌, ◌-◌, ◌≤◌, ◌^◌}
-use mathlib.Core.Path.{◌≡◌, sym, ◌∙◌, subst}
-use mathlib.Core.Bool.{true, false, not}
+use Rattle.std.specs.Prelude.{◌≡◌, true, IsTrue, All, Bool, ◌↔◌, [], ◌∷◌, ℕ, ◌+◌, ◌-◌, ◌^◌, ℤ, pos}
+use Rattle.std.proofs.Common.{arith, rules, sym, ◌∙◌, SFits, of_z, to_z, to_z-of_z}
+use Rattle.std.specs.Int.{w64}
+use Rattle.std.proofs.lemmas.List.Elements.{All-nil, All-cons, All-head, All-tail}
 use native.Mathlib.Nat.{mul-le-mul}
-use native.Mathlib.Omega.{arith}
-use borrow.Author.Rules.{rules}
 use borrow.Author.Tests.{le-ltb}
-use lib.Dec.{T}
-use lib.IntN.{ℤ, pos, nat_abs}
-use mir.Syntax.{w64}
-use mir.Val.{to_z, of_z}
 use Rattle.rules.specs.declared.Direction.{Direction}
 use Rattle.rules.specs.Units.{unit, between, within}
 use Rattle.rules.specs.Length.{square, squares}
-use Rattle.rules.specs.Turning.{Accepted, direction_refused}
+use Rattle.rules.specs.Turning.{Accepted}
+use Rattle.laws.specs.Ranges.{true_not_false}
 use Rattle.laws.specs.Units.{within_le, within_of, between_of, between_parts}
 use Rattle.laws.specs.Directions.{accepted_parts}
 use Rattle.laws.specs.Accepted.{accepted_test}
 use Rattle.words.specs.Fits.{held64}
-use Rattle.words.specs.Tests.{not_taken, not_left}
 use Rattle.length.proofs.accepted.Goals as goal
-use Rattle.length.proofs.accepted.Lts as lts
-use Rattle.length.proofs.accepted.Tie as tie
-use Rattle.length.proofs.accepted.Reads as reads
-
--- a part that is out of reach is refused
-out_of_reach : (v : Direction) (part : ℤ) → (Accepted (squares v) → nat_abs part ≤ unit + 1)
-    → within (unit + 1) part ≡ false
-    → false ≡ not (direction_refused v)
-out_of_reach v part f e =
-    accepted_test v false (λ t. absurd (subst T (sym t) tt)) (λ h. sym e ∙ within_of (unit + 1) part (f h))
 
 -- the ends of what is accepted
 abbrev least : ℕ
@@ -47,88 +32,46 @@ between_of_accepted : (n : ℕ) → Accepted n → between (pos least) (pos most
 between_of_accepted n h = between_of (pos least) (pos most) (pos n)
     (le-ltb n least (omega (arith, h.low))) (le-ltb most n h.high)
 
--- ---- the three parts
+abbrev InReach : ℤ → Type 0
+InReach part = within (unit + 1) part ≡ true
 
-x_tested : (c : lts.After-is_between tie.the-claims reads.Pre reads.Post) → c.is_between.result ≡ within (unit + 1) c.before.before.args.v.x
-unfolding within
-x_tested c =
-    let x = c.before.before.args.v.x in
-    let held : to_z w64 (of_z w64 x) ≡ x = search rules in
-    rw held at c.is_between.ensures
+-- the parts of an accepted direction are in reach
+reached : (v : Direction) → Accepted (squares v) → All InReach (v.x ∷ v.y ∷ v.z ∷ [])
+reached v h =
+    let p = accepted_parts v h in
+    All-cons InReach v.x (v.y ∷ v.z ∷ []) (within_of (unit + 1) v.x p.x)
+    (All-cons InReach v.y (v.z ∷ []) (within_of (unit + 1) v.y p.y)
+    (All-cons InReach v.z [] (within_of (unit + 1) v.z p.z) (All-nil InReach)))
 
-y_tested : (c : lts.After-is_between2 tie.the-claims reads.Pre reads.Post)
-    → c.is_between-2.result ≡ within (unit + 1) c.before.before.before.before.before.args.v.y
-unfolding within
-y_tested c =
-    let y = c.before.before.before.before.before.args.v.y in
-    let held : to_z w64 (of_z w64 y) ≡ y = search rules in
-    rw held at c.is_between-2.ensures
-
-z_tested : (c : lts.After-is_between3 tie.the-claims reads.Pre reads.Post)
-    → c.is_between-3.result
-    ≡ within (unit + 1) c.before.before.before.before.before.before.before.before.args.v.z
-unfolding within
-z_tested c =
-    let z = c.before.before.before.before.before.before.before.before.args.v.z in
-    let held : to_z w64 (of_z w64 z) ≡ z = search rules in
-    rw held at c.is_between-3.ensures
-
--- ---- the needs
-
-pub overflow_sub-is_between : goal.overflow_sub-is_between
-overflow_sub-is_between c = search rules
-
-pub is_between-requires : goal.is_between-requires
-is_between-requires c = search rules
-
-pub returns-then-not-is_between : goal.returns-then-not-is_between
-returns-then-not-is_between c =
-    let v = c.before.before.before.args.v in
-    out_of_reach v v.x (λ h. (accepted_parts v h).x) (sym (x_tested c.before) ∙ c.if-not-is_between.true)
-
-pub overflow_sub-is_between-2 : goal.overflow_sub-is_between-2
-overflow_sub-is_between-2 c = search rules
-
-pub is_between-requires-2 : goal.is_between-requires-2
-is_between-requires-2 c = search rules
-
-pub returns-then-not-is_between-2 : goal.returns-then-not-is_between-2
-returns-then-not-is_between-2 c =
-    let v = c.before.before.before.before.before.before.args.v in
-    out_of_reach v v.y (λ h. (accepted_parts v h).y) (sym (y_tested c.before) ∙ c.if-not-is_between-2.true)
-
-pub overflow_sub-is_between-3 : goal.overflow_sub-is_between-3
-overflow_sub-is_between-3 c = search rules
-
-pub is_between-requires-3 : goal.is_between-requires-3
-is_between-requires-3 c = search rules
-
-pub returns-then-not-is_between-3 : goal.returns-then-not-is_between-3
-returns-then-not-is_between-3 c =
-    let v = c.before.before.before.before.before.before.before.before.before.args.v in
-    out_of_reach v v.z (λ h. (accepted_parts v h).z) (sym (z_tested c.before) ∙ c.if-not-is_between-3.true)
+-- what the test of the parts tells of the direction that they were taken from
+told : (v : Direction) (b : Bool) → SFits w64 v.x → SFits w64 v.y → SFits w64 v.z
+    → (IsTrue b ↔ All InReach (to_z w64 (of_z w64 v.x) ∷ to_z w64 (of_z w64 v.y) ∷ to_z w64 (of_z w64 v.z) ∷ []))
+    → (IsTrue b ↔ All InReach (v.x ∷ v.y ∷ v.z ∷ []))
+told v b f g h t = rw (to_z-of_z f, to_z-of_z g, to_z-of_z h) at t
 
 pub squares_sum-requires : goal.squares_sum-requires
 unfolding squares square
 squares_sum-requires c =
-    let v = c.before.before.before.before.before.before.before.before.before.args.v in
-    let d = c.before.before.before in
-    let e = d.before.before.before in
-    let x_le = within_le (unit + 1) v.x (sym (x_tested e.before.before) ∙ e.if-not-is_between.false) in
-    let y_le = within_le (unit + 1) v.y (sym (y_tested d.before.before) ∙ d.if-not-is_between-2.false) in
-    let z_le = within_le (unit + 1) v.z (sym (z_tested c.before.before) ∙ c.if-not-is_between-3.false) in
+    let v = c.args.v in
+    let all = (told v _ (search rules) (search rules) (search rules) c.in_reach.ensures).0 c.if-in_reach.true in
+    let after = All-tail InReach v.x (v.y ∷ v.z ∷ []) all in
+    let x_le = within_le (unit + 1) v.x (All-head InReach v.x (v.y ∷ v.z ∷ []) all) in
+    let y_le = within_le (unit + 1) v.y (All-head InReach v.y (v.z ∷ []) after) in
+    let z_le = within_le (unit + 1) v.z (All-head InReach v.z [] (All-tail InReach v.y (v.z ∷ []) after)) in
     omega (arith, mul-le-mul x_le x_le, mul-le-mul y_le y_le, mul-le-mul z_le z_le)
 
-pub is_between-requires-4 : goal.is_between-requires-4
-is_between-requires-4 c = search rules
-
-pub returns : goal.returns
-returns c =
-    let v = c.before.before.before.before.before.before.before.before.before.before.before.args.v in
-    let sum : to_z w64 (of_z w64 c.before.squares_sum.result) ≡ pos (squares v) =
-    held64 c.before.squares_sum.result c.before.squares_sum.type_inv ∙ c.before.squares_sum.ensures in
-    let tested : c.is_between-4.result ≡ between (pos least) (pos most) (pos (squares v)) =
-    rw sum at c.is_between-4.ensures in
-    accepted_test v c.is_between-4.result
+pub returns-then-in_reach : goal.returns-then-in_reach
+returns-then-in_reach c =
+    let v = c.args.v in
+    let sum : to_z w64 (of_z w64 c.squares_sum.result) ≡ pos (squares v) =
+    held64 c.squares_sum.result c.squares_sum.type_inv ∙ c.squares_sum.ensures in
+    let tested : c.is_between.result ≡ between (pos least) (pos most) (pos (squares v)) = rw sum at c.is_between.ensures in
+    accepted_test v c.is_between.result
     (λ t. accepted_of_between (squares v) (sym tested ∙ t))
     (λ h. tested ∙ between_of_accepted (squares v) h)
+
+pub returns-else-in_reach : goal.returns-else-in_reach
+returns-else-in_reach c =
+    accepted_test c.args.v c.in_reach.result
+    (λ t. true_not_false (sym t ∙ c.if-in_reach.false))
+    (λ h. (told c.args.v _ (search rules) (search rules) (search rules) c.in_reach.ensures).1 (reached c.args.v h))

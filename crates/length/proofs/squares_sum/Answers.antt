@@ -9,7 +9,6 @@ use Rattle.rules.specs.Length.{square, squares}
 use Rattle.words.specs.Holds.{Holds, bits, ◌+ʷ◌, ◌*ʷ◌, arg, add_to, add_to_ok, mul_to, mul_to_ok}
 use Rattle.length.proofs.squares_sum.Goals as goal
 use Rattle.length.proofs.squares_sum.Lts as lts
-use Rattle.length.proofs.squares_sum.Tie as tie
 use Rattle.length.proofs.squares_sum.Reads as reads
 
 -- the most that the sum can be

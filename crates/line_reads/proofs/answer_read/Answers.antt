@@ -1,89 +1,60 @@
--- `line_reads::answer_read` meets its contract.
-use mathlib.Core.Path.{◌≡◌, sym, ◌∙◌, ap}
-use mathlib.Core.List.{List}
-use Prim.Native.Nat.{ℕ, ◌≤◌, ◌<◌}
-use native.Mathlib.Omega.{arith}
-use lib.ListN.{length, take, length-take}
-use lib.Seq.{length-take-le}
-use borrow.Author.Rules.{rules}
-use Rattle.laws.specs.PuttingBytes.{overlaid_is}
-use Rattle.line_reads.specs.Reads.{last_answer, answers_of, start_of_next, answers_to, start_after_all}
-use Rattle.line_reads.specs.Rooms.{take_min}
-use Rattle.line_reads.specs.Lengths.{last_le, answers_le}
+-- `line_reads::answer_read` meets its contract: of a read the first 1,024 bytes count, and none is its end.
+use Rattle.std.proofs.Common.{◌≡◌, sym, ap, ◌∙◌, List, [], ◌∷◌, ◌++◌, ℕ, min, arith, length, take, refl, length-take}
+use Rattle.std.proofs.lemmas.List.{take_min}
+use Rattle.line_reads.specs.declared.Program.{Program}
+use Rattle.line_reads.specs.declared.starts.Start.{Start}
+use Rattle.line_reads.specs.Reads.{none, last_answer, answers_of, start_of_next}
 use Rattle.line_reads.specs.Steps.{answers_of_some, next_of_some}
 use Rattle.line_reads.proofs.answer_read.Goals as goal
-use Rattle.line_reads.proofs.answer_read.Lts as lts
-use Rattle.line_reads.proofs.answer_read.Reads as reads
-use Rattle.line_reads.proofs.answer_read.Tie as tie
 
-pub answer_end-requires : goal.answer_end-requires
-answer_end-requires c = search rules
+-- the bytes that count
+counted_is : (read : List ℕ) (n : ℕ) → n ≡ min (length read) 1024 → take n read ≡ take 1024 read
+counted_is read n e =
+    let f : n ≡ min 1024 (length read) = omega arith in
+    ap (λ n. take n read) f ∙ take_min 1024 read
 
-wide_at_end : (c : goal.After-answer_end-arg-1) → 64 ≤ length c.args.out.now
-wide_at_end c = search rules
+how_many : (read : List ℕ) (n : ℕ) → n ≡ min (length read) 1024 → length (take 1024 read) ≡ n
+how_many read n e = length-take 1024 read ∙ (omega arith)
 
-pub returns-then-count-eq0 : goal.returns-then-count-eq0
-unfolding answers_of start_of_next
-returns-then-count-eq0 c =
-    let t = c.if-count-eq0.true in
-    rw t (record {
-      answer = c.answer_end.ensures.value;
-      kept = c.answer_end.ensures.out_after ∙ overlaid_is (last_answer c.args.program c.args.start) c.args.out.now
-          (omega (arith, last_le c.args.program c.args.start, wide_at_end c.before));
-    })
+next_at_end : (s : Start) (bytes : List ℕ) → length bytes ≡ 0 → start_of_next s bytes ≡ none
+unfolding start_of_next
+next_at_end s [] h = refl
+next_at_end s (b ∷ bytes) h = absurd (omega arith)
 
-pub at_most-end-requires : goal.at_most-end-requires
-at_most-end-requires c = search rules
+last_at_end : (p : Program) (s : Start) (bytes : List ℕ) → length bytes ≡ 0 → answers_of p s bytes ≡ last_answer p s
+unfolding answers_of
+last_at_end p s [] h = refl
+last_at_end p s (b ∷ bytes) h = absurd (omega arith)
 
-size : (c : goal.After-all-1) → length c.args.input.now ≡ 1024
-size c = search rules
+-- what stood in the room is gone
+after_none : (old new bytes : List ℕ) → old ≡ [] → new ≡ old ++ bytes → new ≡ bytes
+after_none old new bytes e f = f ∙ ap (λ l. l ++ bytes) e
 
-pub slice_bounds-answer_bytes-end : goal.slice_bounds-answer_bytes-end
-slice_bounds-answer_bytes-end c =
-    sym (length-take-le c.at_most-end.result c.args.input.now
-    (omega (arith, c.at_most-end.ensures, size c.before)))
+pub returns-then-end-eq0-clause-answer : goal.returns-then-end-eq0-clause-answer
+returns-then-end-eq0-clause-answer c =
+    let n : length (take 1024 c.args.read.now) ≡ 0 =
+    omega (arith, length-take 1024 c.args.read.now, c.min-end.ensures, c.if-end-eq0.true) in
+    c.answer_end.ensures.value ∙ sym (next_at_end c.args.start (take 1024 c.args.read.now) n)
 
-module _ (c : goal.After-answer_bytes-arg-1) where
-  abbrev entry : lts.Start tie.the-claims reads.Pre reads.Post tie.handed_clauses
-  entry = c.before.before.before.before
+pub returns-then-end-eq0-clause-printed : goal.returns-then-end-eq0-clause-printed
+returns-then-end-eq0-clause-printed c =
+    let n : length (take 1024 c.args.read.now) ≡ 0 =
+    omega (arith, length-take 1024 c.args.read.now, c.min-end.ensures, c.if-end-eq0.true) in
+    after_none _ _ _ c.clear.ensures c.answer_end.ensures.out_after
+    ∙ sym (last_at_end c.args.program c.args.start (take 1024 c.args.read.now) n)
 
-  abbrev bytes : List ℕ
-  bytes = take entry.args.count entry.args.input.now
+pub returns-clause-answer : goal.returns-clause-answer
+returns-clause-answer c =
+    let bytes = take 1024 c.args.read.now in
+    let e = counted_is c.args.read.now c.min-end.result c.min-end.ensures in
+    let n = how_many c.args.read.now c.min-end.result c.min-end.ensures in
+    (rw e at c.answer_bytes.ensures.value)
+    ∙ sym (next_of_some c.args.start bytes (omega (arith, n, c.if-end-eq0.false)))
 
-  abbrev room : List ℕ
-  room = entry.args.out.now
-
-  wide : length room ≡ 65536
-  wide = search rules
-
-  bytes_are : take c.at_most-end.result entry.args.input.now ≡ bytes
-  bytes_are =
-      ap (λ n. take n entry.args.input.now) c.at_most-end.ensures
-      ∙ take_min entry.args.count 1024 entry.args.input.now (size c.before.before)
-
-  some : 0 < length bytes
-  some =
-      omega (
-        arith,
-        length-take entry.args.count entry.args.input.now,
-        size c.before.before,
-        c.if-count-eq0.false,
-      )
-
-  few : length bytes ≤ 1024
-  few = omega (arith, length-take entry.args.count entry.args.input.now, size c.before.before)
-
-pub answer_bytes-requires : goal.answer_bytes-requires
-answer_bytes-requires c = rw (bytes_are c) (omega (arith, few c, wide c))
-
-pub returns : goal.returns
-returns c =
-    let p = (entry c.before).args.program in
-    let start = (entry c.before).args.start in
-    let e : answers_of p start (bytes c.before) ≡ answers_to p start (bytes c.before) = answers_of_some p start (bytes c.before) (some c.before) in
-    let n : start_of_next start (bytes c.before) ≡ start_after_all start (bytes c.before) = next_of_some start (bytes c.before) (some c.before) in record {
-      answer = rw (e, n) (rw (bytes_are c.before) at c.answer_bytes.ensures.value);
-      kept = rw e ((rw (bytes_are c.before) at c.answer_bytes.ensures.out_after)
-          ∙ overlaid_is (answers_to p start (bytes c.before)) (room c.before)
-          (omega (arith, answers_le p start (bytes c.before), few c.before, wide c.before)));
-    }
+pub returns-clause-printed : goal.returns-clause-printed
+returns-clause-printed c =
+    let bytes = take 1024 c.args.read.now in
+    let e = counted_is c.args.read.now c.min-end.result c.min-end.ensures in
+    let n = how_many c.args.read.now c.min-end.result c.min-end.ensures in
+    after_none _ _ _ c.clear.ensures (rw e at c.answer_bytes.ensures.out_after)
+    ∙ sym (answers_of_some c.args.program c.args.start bytes (omega (arith, n, c.if-end-eq0.false)))

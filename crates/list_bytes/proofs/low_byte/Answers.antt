@@ -24,8 +24,5 @@ masked c =
     ∙ low_bits c.args.z c.ranges.z.sfits in
     ap (to_z w64) e ∙ to_z_pos w64 (omega (arith, modulo_lt c.args.z 256 (lit< tt)))
 
-pub overflow_cast-result : goal.overflow_cast-result
-overflow_cast-result c = simp (masked c) (tt, record { fits = modulo_lt c.args.z 256 (lit< tt) })
-
 pub returns : goal.returns
 returns c = ap nat_abs (masked c)

@@ -1,84 +1,43 @@
 -- `list_bytes::put_number` meets its contract.
-use mathlib.Core.Path.{refl, ◌≡◌, sym, ◌∙◌, ap, subst}
-use Prim.Native.Nat.{ℕ, suc, ◌+◌, ◌^◌, ◌<◌}
-use native.Mathlib.Omega.{arith}
-use lib.IntN.{ℤ}
-use lib.ListN.{length}
-use lib.Seq.{paste-zero}
-use lib.Seq.{paste}
+use Rattle.std.proofs.Common.{◌≡◌, ap, ◌∙◌, List, ◌++◌, ℕ, suc, ◌+◌, ◌<◌, ◌^◌, arith, length, set, append-nil, ℤ, to_z, of_z, w64}
+use lib.Seq.{paste, drop-length}
 use lib.Signed.{mag, shr_z}
-use borrow.Author.Rules.{rules}
 use borrow.Author.Rules.{sfits_of}
 use mir.Facts.{to_z-of_z}
-use mir.Syntax.{w64}
-use mir.Val.{to_z, of_z}
-use Rattle.list_bytes.proofs.put_number.Goals as goal
-use Rattle.laws.specs.ByteByByte.{low_bytes, above, above_le, above_next}
 use Rattle.rules.specs.Rounding.{modulo}
-use Rattle.list_bytes.specs.Puts.{put, stored_long, stored_next, stored_all}
+use Rattle.laws.specs.ByteByByte.{low_bytes, low_length, above, above_le, above_next}
+use Rattle.list_bytes.specs.Puts.{put_first, stored_next, stored_all}
+use Rattle.list_bytes.proofs.put_number.Goals as goal
 
-pub loop-k-init : goal.loop-k-init
-loop-k-init c = (
-  omega arith,
-  (paste-zero c.args.room.now c.args.at (low_bytes c.args.width (to_z w64 (of_z w64 c.args.z))), refl),
-)
+-- so many bytes are all the room has
+stored_whole : (room : List ℕ) (z : ℤ)
+    → paste room 0 (low_bytes (length room) z) (length room) ≡ low_bytes (length room) z
+stored_whole room z =
+    let new = low_bytes (length room) z in
+    stored_all room 0 (length room) z ∙ put_first room new (length room) (low_length (length room) z)
+    ∙ ap (λ r. new ++ r) (drop-length room) ∙ append-nil new
 
-pub low_byte-requires : goal.low_byte-requires
-low_byte-requires c = search rules
-
-pub overflow_add-room : goal.overflow_add-room
-overflow_add-room c = omega arith
-
-pub bounds-room-at : goal.bounds-room-at
-bounds-room-at c =
-    let a = c.args in
-    let inv = c.loop-k.invariant in
-    let k = c.loop-k.k in
-    let long : length c.loop-k.room ≡ length a.room.now = ap length inv.1.0
-    ∙ stored_long a.room.now a.at k a.width (to_z w64 (of_z w64 a.z)) inv.0
-    c.requires in
-    omega (arith, long, c.loop-k-test.true, c.requires)
-
-pub overflow_add-k : goal.overflow_add-k
-overflow_add-k c = omega arith
-
-pub loop-k-smaller : goal.loop-k-smaller
-loop-k-smaller c = omega arith
-
-pub loop-k-preserved : goal.loop-k-preserved
-loop-k-preserved c =
-    let a = c.args in
-    let inv = c.loop-k.invariant in
-    let k = c.loop-k.k in
-    let z = to_z w64 (of_z w64 a.z) in
-    let z_is : z ≡ a.z = to_z-of_z c.ranges.z in
-    let small : mag (above (k + 1) z) < 2 ^ 63 = omega (
-      arith,
-      above_le (k + 1) z,
-      subst (λ (y : ℤ). mag y < 2 ^ 63) (sym z_is) c.ranges.z.sfits,
-    ) in
+pub loop-b-preserved : goal.loop-b-preserved
+loop-b-preserved c =
+    let room = c.args.room.now in
+    let inv = c.loop-b.invariant in
+    let k = c.loop-b.b-index in
+    let z = to_z w64 (of_z w64 c.args.z) in
+    let z_is : z ≡ c.args.z = to_z-of_z c.ranges.z in
+    let small : mag (above (k + 1) z) < 2 ^ 63 = rw z_is (omega (arith, above_le (k + 1) c.args.z, c.ranges.z.sfits)) in
     let more : suc k ≡ k + 1 = omega arith in
-    let shifted = ap (λ (y : ℤ). shr_z y 256) inv.1.1 ∙ above_next k z ∙ ap (λ (j : ℕ). above j z) more in (
-      omega (arith, c.loop-k-test.true),
-      (
-        stored_next a.room.now c.loop-k.room a.at k a.width z c.low_byte.result inv.1.0
-            (c.low_byte.ensures ∙ ap (λ (y : ℤ). modulo y 256) inv.1.1) c.loop-k-test.true c.requires,
-        ap (λ (y : ℤ). to_z w64 (of_z w64 y)) shifted ∙ to_z-of_z {w = w64} (sfits_of small),
-      ),
+    let here : k ≡ 0 + k = omega arith in
+    let shifted = ap (λ (y : ℤ). shr_z y 256) inv.1 ∙ above_next k z ∙ ap (λ (j : ℕ). above j z) more in (
+      ap (λ j. set c.loop-b.room j c.low_byte.result) here ∙ stored_next room c.loop-b.room 0 k (length room) z c.low_byte.result inv.0
+          (c.low_byte.ensures ∙ ap (λ (y : ℤ). modulo y 256) inv.1) c.loop-b-test.true (omega arith),
+      ap (λ (y : ℤ). to_z w64 (of_z w64 y)) shifted ∙ to_z-of_z {w = w64} (sfits_of small),
     )
-
-pub shape_of-room : goal.shape_of-room
-shape_of-room c =
-    let a = c.args in
-    let inv = c.loop-k.invariant in
-    ap length inv.1.0 ∙ stored_long a.room.now a.at c.loop-k.k a.width
-    (to_z w64 (of_z w64 a.z)) inv.0 c.requires
 
 pub returns : goal.returns
 returns c =
-    let a = c.args in
-    let inv = c.loop-k.invariant in
-    let all : c.loop-k.k ≡ a.width = omega (arith, inv.0, c.loop-k-test.false) in
-    inv.1.0 ∙ ap (λ (j : ℕ). paste a.room.now a.at (low_bytes a.width (to_z w64 (of_z w64 a.z))) j) all
-    ∙ stored_all a.room.now a.at a.width (to_z w64 (of_z w64 a.z))
-    ∙ ap (λ (y : ℤ). put a.room.now a.at (low_bytes a.width y)) (to_z-of_z c.ranges.z)
+    let room = c.args.room.now in
+    let z = to_z w64 (of_z w64 c.args.z) in
+    let all : c.loop-b.b-index ≡ length room = omega arith in
+    c.loop-b.invariant.0
+    ∙ ap (λ (j : ℕ). paste room 0 (low_bytes (length room) z) j) all
+    ∙ stored_whole room z ∙ ap (low_bytes (length room)) (to_z-of_z c.ranges.z)

@@ -1,71 +1,63 @@
 -- `list_file::mark_refused` meets its contract.
-use mathlib.Core.Path.{◌≡◌, sym, ap, ◌∙◌}
-use mathlib.Core.Bool.{Bool, true, false, not, ◌&&◌}
+use Rattle.std.proofs.Common.{◌≡◌, refl, sym, ◌∙◌, ap, Bool, true, false, not, ◌&&◌, ◌≤◌, length, get_or, take, arith, List, [], ◌∷◌, ℕ, nat_eq, lt-ltb}
+use Rattle.std.specs.List.{starts_with}
 use lib.Dec.{eqb}
-use lib.ListN.{get_or}
-use borrow.Author.Rules.{rules}
-use borrow.Author.Tests.{eq-eqb, ne_eqb}
-use mir.Syntax.{w64}
-use mir.Val.{of_z}
-use Rattle.rules.specs.Bytes.{unsigned_at}
+use borrow.Author.Tests.{eqb-true, eqb-false, eq-eqb, ne_eqb}
+use Rattle.rules.specs.Bytes.{part, unsigned_at}
+use Rattle.rules.specs.ListFile.{mark, head_length}
+use Rattle.rules.specs.ListReading.{mark_refused}
+use Rattle.laws.specs.FileParts.{part_cons, part_none}
 use Rattle.laws.specs.FileTests.{mark_short, mark_long}
+use Rattle.list_file.proofs.Words.{word_at}
 use Rattle.list_file.proofs.mark_refused.Goals as goal
+use Rattle.list_file.proofs.mark_refused.Goals.{then-file-lt-HEAD_BYTES, else-file-lt-HEAD_BYTES}
 
-fails_1 : (a b c d : Bool) → a ≡ false → true ≡ not (a && (b && (c && true)) && d)
-fails_1 a b c d e = simp e
+eqb_swap : (a b : ℕ) → eqb a b ≡ eqb b a
+eqb_swap a b = by (eqb a b) refl
+  where
+    by : (t : Bool) → eqb a b ≡ t → t ≡ eqb b a
+    by true e = sym (eq-eqb b a (sym (eqb-true a b e)))
+    by false e = sym (ne_eqb b a (λ h. eqb-false a b e (sym h)))
 
-fails_2 : (a b c d : Bool) → a ≡ true → b ≡ false → true ≡ not (a && (b && (c && true)) && d)
-fails_2 a b c d e f = simp (e, f)
+other : {b : Bool} → true ≡ not b → false ≡ b
+other {b = true} e = sym e
+other {b = false} e = refl
 
-fails_3 : (a b c d : Bool) → a ≡ true → b ≡ true → c ≡ false → true ≡ not (a && (b && (c && true)) && d)
-fails_3 a b c d e f g = simp (e, f, g)
+marked : {b : Bool} → false ≡ not b → true ≡ b
+marked {b = true} e = refl
+marked {b = false} e = sym e
 
-passes : (a b c d : Bool) → a ≡ true → b ≡ true → c ≡ true → not d ≡ not (a && (b && (c && true)) && d)
-passes a b c d e f g = simp (e, f, g)
+module _ (file : List ℕ) (l : head_length ≤ length file) where
+  three : take 3 file ≡ get_or file 0 0 ∷ get_or file 1 0 ∷ get_or file 2 0 ∷ []
+  unfolding part
+  three =
+      part_cons 0 2 file (omega arith) ∙ ap (λ r. get_or file 0 0 ∷ r) (part_cons 1 1 file (omega arith))
+      ∙ ap (λ r. get_or file 0 0 ∷ get_or file 1 0 ∷ r)
+      (part_cons 2 0 file (omega arith) ∙ ap (λ r. get_or file 2 0 ∷ r) (part_none 3 file))
 
-pub returns-then-file-lt-HEAD_BYTES : goal.returns-then-file-lt-HEAD_BYTES
-returns-then-file-lt-HEAD_BYTES c = sym (mark_short c.args.file.now c.if-file-lt-HEAD_BYTES.true)
+  -- the version, after the mark
+  passes : (b : Bool) → b ≡ starts_with nat_eq file mark
+      → mark_refused file ≡ not (b && eqb (unsigned_at 3 2 file) 1)
+  passes b e =
+      let marked : starts_with nat_eq file mark ≡ eqb (get_or file 0 0) 83 && (eqb (get_or file 1 0) 76 && (eqb (get_or file 2 0) 84 && true)) =
+      rw three (λ i. eqb_swap 83 (get_or file 0 0) i && (eqb_swap 76 (get_or file 1 0) i && (eqb_swap 84 (get_or file 2 0) i && true))) in
+      mark_long file l ∙ ap (λ m. not (m && eqb (unsigned_at 3 2 file) 1)) (sym (e ∙ marked))
 
-pub bounds-file-0 : goal.bounds-file-0
-bounds-file-0 c = search rules
-
-pub returns-then-file-ne83 : goal.returns-then-file-ne83
-returns-then-file-ne83 c =
+pub returns-then-not-starts_with : goal.returns-then-not-starts_with
+returns-then-not-starts_with c =
     let file = c.args.file.now in
-    fails_1 (eqb (get_or file 0 0) 83) (eqb (get_or file 1 0) 76) (eqb (get_or file 2 0) 84) (eqb (unsigned_at 3 2 file) 1)
-    (ne_eqb (get_or file 0 0) 83 c.if-file-ne83.true)
-    ∙ sym (mark_long file c.if-file-lt-HEAD_BYTES.false)
+    c.if-not-starts_with.true ∙ sym (elim c.if-file-lt-HEAD_BYTES.branch [
+      | then-file-lt-HEAD_BYTES w ↦ mark_short file w.if-file-lt-HEAD_BYTES.true
+      | else-file-lt-HEAD_BYTES w ↦ passes file w.if-file-lt-HEAD_BYTES.false false
+          (other (sym c.if-not-starts_with.true ∙ w.value-is) ∙ w.starts_with.ensures.value)
+    ])
 
-pub bounds-file-1 : goal.bounds-file-1
-bounds-file-1 c = search rules
-
-pub returns-then-file-ne76 : goal.returns-then-file-ne76
-returns-then-file-ne76 c =
+pub returns-else-not-starts_with : goal.returns-else-not-starts_with
+returns-else-not-starts_with c =
     let file = c.args.file.now in
-    fails_2 (eqb (get_or file 0 0) 83) (eqb (get_or file 1 0) 76) (eqb (get_or file 2 0) 84) (eqb (unsigned_at 3 2 file) 1)
-    (eq-eqb (get_or file 0 0) 83 c.if-file-ne83.false) (ne_eqb (get_or file 1 0) 76 c.if-file-ne76.true)
-    ∙ sym (mark_long file c.if-file-lt-HEAD_BYTES.false)
-
-pub bounds-file-2 : goal.bounds-file-2
-bounds-file-2 c = search rules
-
-pub returns-then-file-ne84 : goal.returns-then-file-ne84
-returns-then-file-ne84 c =
-    let file = c.args.file.now in
-    fails_3 (eqb (get_or file 0 0) 83) (eqb (get_or file 1 0) 76) (eqb (get_or file 2 0) 84) (eqb (unsigned_at 3 2 file) 1)
-    (eq-eqb (get_or file 0 0) 83 c.if-file-ne83.false)
-    (eq-eqb (get_or file 1 0) 76 c.if-file-ne76.false) (ne_eqb (get_or file 2 0) 84 c.if-file-ne84.true)
-    ∙ sym (mark_long file c.if-file-lt-HEAD_BYTES.false)
-
-pub two_bytes_at-requires : goal.two_bytes_at-requires
-two_bytes_at-requires c = search rules
-
-pub returns : goal.returns
-returns c =
-    let file = c.args.file.now in
-    ap (λ z. not (eqb (of_z w64 z) 1)) c.two_bytes_at.ensures
-    ∙ passes (eqb (get_or file 0 0) 83) (eqb (get_or file 1 0) 76) (eqb (get_or file 2 0) 84) (eqb (unsigned_at 3 2 file) 1)
-    (eq-eqb (get_or file 0 0) 83 c.if-file-ne83.false)
-    (eq-eqb (get_or file 1 0) 76 c.if-file-ne76.false)
-    (eq-eqb (get_or file 2 0) 84 c.if-file-ne84.false)
-    ∙ sym (mark_long file c.if-file-lt-HEAD_BYTES.false)
+    elim c.if-file-lt-HEAD_BYTES.branch [
+      | then-file-lt-HEAD_BYTES w ↦ (let short = lt-ltb (length file) head_length w.if-file-lt-HEAD_BYTES.true in cc)
+      | else-file-lt-HEAD_BYTES w ↦ ap (λ n. not (eqb n 1)) (c.word_in.ensures ∙ word_at 3 file)
+          ∙ sym (passes file w.if-file-lt-HEAD_BYTES.false true
+          (marked (sym c.if-not-starts_with.false ∙ w.value-is) ∙ w.starts_with.ensures.value))
+    ]

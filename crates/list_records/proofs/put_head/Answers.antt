@@ -1,47 +1,20 @@
 -- `list_records::put_head` meets its contract.
-use mathlib.Core.List.{[], ◌∷◌}
-use mathlib.Core.Path.{◌≡◌, ◌∙◌}
-use Prim.Native.Nat.{◌/◌, ◌%◌}
-use native.Mathlib.Omega.{arith}
-use lib.ListN.{length-set}
-use lib.Seq.{sets-eq}
-use borrow.Author.Rules.{rules}
-use Rattle.list_bytes.specs.Puts.{put}
+use Rattle.std.proofs.Common.{◌≡◌, refl, ◌∙◌, ap, List, [], ◌∷◌, ◌++◌, ℕ, arith, drop, ◌/◌, ◌%◌}
+use borrow.Rule.Slice.PartMut.{put_mid}
+use Rattle.list_records.proofs.Parts.{part_first, part_next}
 use Rattle.list_records.proofs.put_head.Goals as goal
 
-pub bounds-room-0 : goal.bounds-room-0
-bounds-room-0 c = search rules
-
-pub bounds-room-1 : goal.bounds-room-1
-bounds-room-1 c = simp length-set (omega (arith, c.requires.0))
-
-pub bounds-room-2 : goal.bounds-room-2
-bounds-room-2 c = simp length-set (omega (arith, c.requires.0))
-
-pub bounds-room-3 : goal.bounds-room-3
-bounds-room-3 c = simp length-set (omega (arith, c.requires.0))
-
-pub bounds-room-4 : goal.bounds-room-4
-bounds-room-4 c = simp length-set (omega (arith, c.requires.0))
-
-pub overflow_cast-room : goal.overflow_cast-room
-overflow_cast-room c = search rules
-
-pub bounds-room-5 : goal.bounds-room-5
-bounds-room-5 c = simp length-set (omega (arith, c.requires.0))
-
-pub bounds-room-6 : goal.bounds-room-6
-bounds-room-6 c = simp length-set (omega (arith, c.requires.0))
-
-pub shape_of-room : goal.shape_of-room
-shape_of-room c = search rules
-
 pub returns : goal.returns
-unfolding put
 returns c =
     let room = c.args.room.now in
     let count = c.args.count in
-    let low : count ≡ count % 256 = omega (arith, c.requires.1) in
-    let high : 0 ≡ count / 256 % 256 = omega (arith, c.requires.1) in
-    sets-eq (83 ∷ 76 ∷ 84 ∷ 1 ∷ 0 ∷ count ∷ 0 ∷ []) room 0 (omega (arith, c.requires.0))
-    ∙ (λ i. put room 0 (83 ∷ 76 ∷ 84 ∷ 1 ∷ 0 ∷ low i ∷ high i ∷ []))
+    let mark : List ℕ = 83 ∷ 76 ∷ 84 ∷ [] in
+    let version : List ℕ = 1 ∷ 0 ∷ [] in
+    let number : List ℕ = count % 256 ∷ count / 256 % 256 ∷ [] in
+    let first = c.copy_from_slice.ensures.after in
+    let second : c.copy_from_slice-2.new.self ≡ version = c.copy_from_slice-2.ensures.after ∙ c.to_le_bytes.ensures in
+    let third : c.copy_from_slice-3.new.self ≡ number = c.copy_from_slice-3.ensures.after ∙ c.to_le_bytes-2.ensures in
+    (λ i. put_mid 5 2 (put_mid 3 2 (first i ++ drop 3 room) (second i)) (third i))
+    ∙ ap (λ r. put_mid 5 2 (put_mid 3 2 r version) number) (part_first room mark 3 refl)
+    ∙ ap (λ r. put_mid 5 2 r number) (part_next room mark version 3 2 refl refl (omega (arith, c.requires.0)))
+    ∙ part_next room (mark ++ version) number 5 2 refl refl (omega (arith, c.requires.0))

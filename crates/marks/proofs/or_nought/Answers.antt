@@ -1,18 +1,14 @@
 -- `marks::or_nought` meets its contract.
-use mathlib.Core.Path.{◌≡◌}
-use borrow.Author.Rules.{rules}
-use mir.Syntax.{w64}
-use mir.Val.{to_z, of_z}
-use Rattle.rules.specs.Answers.{or_nought}
+use Rattle.std.specs.Prelude.{◌≡◌, refl, Option, Some, None, ℤ, pos}
+use Rattle.std.proofs.Common.{rules, ◌∙◌}
+use Rattle.std.specs.Option.{unwrap_or}
+use Rattle.rules.specs.Answers as rule
 use Rattle.marks.proofs.or_nought.Goals as goal
 
-pub returns-in-Angle : goal.returns-in-Angle
-unfolding or_nought
-returns-in-Angle c =
-    let a = c.in-Angle.angle in
-    let held : to_z w64 (of_z w64 a) ≡ a = search rules in
-    rw (c.in-Angle.is, held)
+is_angle : (a : Option ℤ) → unwrap_or a (pos 0) ≡ rule.or_nought a
+unfolding rule.or_nought
+is_angle (Some x) = refl
+is_angle None = refl
 
-pub returns-in-NoAngle : goal.returns-in-NoAngle
-unfolding or_nought
-returns-in-NoAngle c = rw c.in-NoAngle.is
+pub returns : goal.returns
+returns c = search rules ∙ c.unwrap_or.ensures ∙ is_angle c.args.a

@@ -1,279 +1,150 @@
 -- `night::night_at` meets its contract: each call's result is the rule's, and what it is given fits.
-use mathlib.Core.Path.{◌≡◌, sym, ap, ◌∙◌}
-use Prim.Native.Nat.{◌^◌}
-use native.Mathlib.Omega.{arith}
-use borrow.Author.Rules.{rules, sfits_of}
-use lib.IntN.{pos, neg_ℤ, ◌+ℤ◌, ◌-ℤ◌}
-use mir.Facts.{to_z-of_z}
-use Rattle.words.specs.Fits.{held64}
-use Rattle.words.specs.Holds.{Holds, bits, arg, got, add, add_ok}
-use Rattle.rules.specs.declared.Ut.{Ut}
+use Rattle.std.specs.Prelude.{◌≡◌, ◌^◌, false, ℤ, neg_ℤ}
+use Rattle.std.proofs.Common.{sym, ap, ◌∙◌, arith, rules, w64, to_z, of_z}
+use Rattle.rules.specs.declared.Direction.{Direction}
+use Rattle.rules.specs.declared.Pair.{Pair}
 use Rattle.rules.specs.declared.Tt.{Tt}
 use Rattle.rules.specs.declared.Site.{Site}
+use Rattle.rules.specs.declared.Nutation.{Nutation}
+use Rattle.rules.specs.declared.Precession.{Precession}
 use Rattle.rules.specs.Units.{half, quarter, unit}
-use Rattle.rules.specs.Rounding.{remainder}
+use Rattle.rules.specs.Length.{pair_squares}
 use Rattle.rules.specs.Circle.{pair}
-use Rattle.rules.specs.Precession.{precession, obliquity}
+use Rattle.rules.specs.Turning.{Accepted}
+use Rattle.rules.specs.Precession.{obliquity}
 use Rattle.rules.specs.Nutation.{nutation}
-use Rattle.rules.specs.Sun.{sun_longitude, perihelion}
-use Rattle.rules.specs.Night.{aberration, local_sidereal, night}
-use Rattle.laws.specs.Angles.{pair_sized, pair_opposite}
+use Rattle.rules.specs.Night.{site_refused, local_sidereal, aberration, night}
+use Rattle.laws.specs.Instant.{InRange}
+use Rattle.laws.specs.Angles.{Sized, pair_sized, pair_length, pair_opposite}
+use Rattle.laws.specs.Directions.{PartsLe}
+use Rattle.laws.specs.Aberration.{most_added}
 use Rattle.laws.specs.Nutation.{ten_terms}
 use Rattle.laws.specs.Night.{site_ranges, obliquity_le}
+use Rattle.laws.proofs.Night.{aberration_le}
+use Rattle.words.specs.Fits.{held64}
+use Rattle.words.specs.Holds.{Holds, bits, arg, got, add, add_ok}
 use Rattle.night_pairs.specs.Parts.{opposite}
 use Rattle.night.proofs.night_at.Goals as goal
-use Rattle.night.proofs.night_at.Lts as lts
-use Rattle.night.proofs.night_at.Reads as reads
-use Rattle.night.proofs.night_at.Tie as tie
 
--- ---- the pair of ε: what is known once it is there
---
--- Each later stage has `mean-of-..`, this stage reached by the stage before it: no lemma counts its steps back.
+-- ---- what the words hold
 
-module _ (c : goal.After-pair-mean) where
-  abbrev epsilon_at : goal.After-obliquity_of-epsilon
-  epsilon_at = c.before
+epsilon_holds : (t : Tt) {e : ℤ} → InRange t.0 → e ≡ obliquity t → Holds (bits e) (obliquity t) (2 ^ 40)
+epsilon_holds t h i = got i (obliquity_le t h) tt
 
-  abbrev nutation_at_lem : goal.After-nutation_of-n
-  nutation_at_lem = epsilon_at.before
+delta_psi_holds : (t : Tt) {n : Nutation} → InRange t.0 → n ≡ nutation t
+    → Holds (bits n.longitude) (nutation t).longitude (2 ^ 31)
+delta_psi_holds t h i = got (ap (λ (n : Nutation). n.longitude) i) (omega (arith, (ten_terms t h).longitude_le)) tt
 
-  abbrev precession_at_lem : goal.After-precession_of-p
-  precession_at_lem = nutation_at_lem.before
+delta_epsilon_holds : (t : Tt) {n : Nutation} → InRange t.0 → n ≡ nutation t
+    → Holds (bits n.obliquity) (nutation t).obliquity (2 ^ 31)
+delta_epsilon_holds t h i = got (ap (λ (n : Nutation). n.obliquity) i) (omega (arith, (ten_terms t h).obliquity_le)) tt
 
-  abbrev start_of : goal.Start
-  start_of = precession_at_lem.before
+cosine_holds : (a : ℤ) {p : Pair} → p ≡ pair a → Holds (bits p.cosine) (pair a).cosine unit
+cosine_holds a i = got (ap (λ (p : Pair). p.cosine) i) (pair_sized a).cosine_le tt
 
-  abbrev ut_of_lem : Ut
-  ut_of_lem = start_of.args.ut
+longitude_holds : (s : Site) → site_refused s ≡ false → Holds (bits s.longitude) s.longitude half
+longitude_holds s h = arg s.longitude (site_ranges s h).longitude_le tt
 
-  abbrev tt_of_lem : Tt
-  tt_of_lem = start_of.args.tt
+latitude_holds : (s : Site) → site_refused s ≡ false → Holds (bits s.latitude) s.latitude quarter
+latitude_holds s h = arg s.latitude (site_ranges s h).latitude_le tt
 
-  abbrev site_of_lem : Site
-  site_of_lem = start_of.args.site
-
-  epsilon_holds : Holds (bits epsilon_at.obliquity_of-epsilon.result) (obliquity tt_of_lem) (2 ^ 40)
-  epsilon_holds = got epsilon_at.obliquity_of-epsilon.ensures (obliquity_le tt_of_lem start_of.requires.tt_in) tt
-
-  delta_psi_holds : Holds (bits nutation_at_lem.nutation_of-n.result.longitude) (nutation tt_of_lem).longitude (2 ^ 31)
-  delta_psi_holds =
-      got (ap (λ n. n.longitude) nutation_at_lem.nutation_of-n.ensures)
-      (omega (arith, (ten_terms tt_of_lem start_of.requires.tt_in).longitude_le)) tt
-
-  delta_epsilon_holds : Holds (bits nutation_at_lem.nutation_of-n.result.obliquity) (nutation tt_of_lem).obliquity (2 ^ 31)
-  delta_epsilon_holds =
-      got (ap (λ n. n.obliquity) nutation_at_lem.nutation_of-n.ensures)
-      (omega (arith, (ten_terms tt_of_lem start_of.requires.tt_in).obliquity_le)) tt
-
-  site_longitude_holds : Holds (bits site_of_lem.longitude) site_of_lem.longitude half
-  site_longitude_holds = arg site_of_lem.longitude (site_ranges site_of_lem start_of.requires.accepted).longitude_le tt
-
-  site_latitude_holds : Holds (bits site_of_lem.latitude) site_of_lem.latitude quarter
-  site_latitude_holds = arg site_of_lem.latitude (site_ranges site_of_lem start_of.requires.accepted).latitude_le tt
-
-  mean_is : c.pair-mean.result ≡ pair (obliquity tt_of_lem)
-  mean_is = rw epsilon_holds.value at c.pair-mean.ensures
-
-  cosine_holds : Holds (bits c.pair-mean.result.cosine) (pair (obliquity tt_of_lem)).cosine unit
-  cosine_holds = got (ap (λ p. p.cosine) mean_is) (pair_sized _).cosine_le tt
-
--- ---- the pairs of S and ϖ
-
-module _ (c : goal.After-pair-sun) where
-  abbrev mean_of_sun : goal.After-pair-mean
-  mean_of_sun = c.before.before
-
-  sun_is : c.pair-sun.result ≡ pair (sun_longitude (tt_of_lem mean_of_sun))
-  sun_is =
-      let sun = c.sun_longitude_of in
-      rw (held64 sun.result sun.type_inv ∙ sun.ensures) at c.pair-sun.ensures
-
-module _ (c : lts.After-pair3 tie.the-claims reads.Pre reads.Post tie.handed_clauses) where
-  abbrev mean_of_perihelion : goal.After-pair-mean
-  mean_of_perihelion = mean_of_sun c.before.before
-
-  perihelion_is : c.pair-perihelion.result ≡ pair (perihelion (tt_of_lem mean_of_perihelion))
-  perihelion_is =
-      let angle = c.perihelion_of in
-      rw (held64 angle.result angle.type_inv ∙ angle.ensures) at c.pair-perihelion.ensures
-
--- ---- step 3
-
-module _ (c : lts.After-pair4 tie.the-claims reads.Pre reads.Post tie.handed_clauses) where
-  abbrev mean_of_zeta : goal.After-pair-mean
-  mean_of_zeta = mean_of_perihelion c.before.before
-
-  zeta_is : c.pair.result ≡ pair (precession (tt_of_lem mean_of_zeta)).zeta
-  zeta_is =
-      rw (to_z-of_z (sfits_of c.struct_told-1.given.0.1)) at c.pair.ensures
-      ∙ ap (λ p. pair p.zeta) (precession_at_lem mean_of_zeta).precession_of-p.ensures
-
-module _ (c : lts.After-pair5 tie.the-claims reads.Pre reads.Post tie.handed_clauses) where
-  abbrev mean_of_theta : goal.After-pair-mean
-  mean_of_theta = mean_of_zeta c.before.before
-
-  theta_is : c.pair-2.result ≡ pair (precession (tt_of_lem mean_of_theta)).theta
-  theta_is =
-      rw (to_z-of_z (sfits_of c.struct_told-2-1.given.1.1.0.1)) at c.pair-2.ensures
-      ∙ ap (λ p. pair p.theta) (precession_at_lem mean_of_theta).precession_of-p.ensures
-
-module _ (c : lts.After-opposite_of tie.the-claims reads.Pre reads.Post tie.handed_clauses) where
-  abbrev mean_of_opposite_theta : goal.After-pair-mean
-  mean_of_opposite_theta = mean_of_theta c.before
-
-  opposite_theta_is : c.opposite_of.result ≡ pair (neg_ℤ (precession (tt_of_lem mean_of_opposite_theta)).theta)
-  opposite_theta_is = c.opposite_of.ensures ∙ ap opposite (theta_is c.before) ∙ sym (pair_opposite _)
-
-module _ (c : goal.After-pair-3) where
-  abbrev mean_of_z : goal.After-pair-mean
-  mean_of_z = mean_of_opposite_theta c.before.before
-
-  z_is : c.pair-3.result ≡ pair (precession (tt_of_lem mean_of_z)).z
-  z_is =
-      rw (to_z-of_z (sfits_of c.struct_told-3-1.given.1.0.1)) at c.pair-3.ensures
-      ∙ ap (λ p. pair p.z) (precession_at_lem mean_of_z).precession_of-p.ensures
-
--- ---- step 4
-
-module _ (c : goal.After-aberration) where
-  abbrev mean_of_aberration : goal.After-pair-mean
-  mean_of_aberration = mean_of_z c.before
-
-  aberration_is : c.aberration.result
-      ≡ (let t = tt_of_lem mean_of_aberration in
-      aberration (pair (sun_longitude t)) (pair (perihelion t)) (pair (obliquity t)))
-  aberration_is = simp (sun_is, perihelion_is, mean_is) at c.aberration.ensures
-
--- ---- step 5
-
-module _ (c : lts.After-opposite_of2 tie.the-claims reads.Pre reads.Post tie.handed_clauses) where
-  abbrev mean_of_opposite_mean : goal.After-pair-mean
-  mean_of_opposite_mean = mean_of_aberration c.before
-
-  opposite_mean_is : c.opposite_of-2.result ≡ pair (neg_ℤ (obliquity (tt_of_lem mean_of_opposite_mean)))
-  opposite_mean_is =
-      c.opposite_of-2.ensures ∙ ap opposite (mean_is mean_of_opposite_mean) ∙ sym (pair_opposite _)
-
-module _ (c : lts.After-pair7 tie.the-claims reads.Pre reads.Post tie.handed_clauses) where
-  abbrev mean_of_longitude : goal.After-pair-mean
-  mean_of_longitude = mean_of_opposite_mean c.before.before
-
-  longitude_is : c.pair-4.result ≡ pair (nutation (tt_of_lem mean_of_longitude)).longitude
-  longitude_is =
-      rw (to_z-of_z (sfits_of c.struct_told-4-1.given.0.1)) at c.pair-4.ensures
-      ∙ ap (λ n. pair n.longitude) (nutation_at_lem mean_of_longitude).nutation_of-n.ensures
-
-module _ (c : lts.After-pair8 tie.the-claims reads.Pre reads.Post tie.handed_clauses) where
-  abbrev mean_of_obliquity : goal.After-pair-mean
-  mean_of_obliquity = mean_of_longitude c.before.before.before
-
-  obliquity_is : c.pair-5.result
-      ≡ pair (obliquity (tt_of_lem mean_of_obliquity) +ℤ (nutation (tt_of_lem mean_of_obliquity)).obliquity)
-  obliquity_is =
-      let m = mean_of_obliquity in
-      rw (add (epsilon_holds m) (delta_epsilon_holds m) tt).value at c.pair-5.ensures
-
--- ---- step 6
-
-module _ (c : lts.After-sidereal_pair tie.the-claims reads.Pre reads.Post tie.handed_clauses) where
-  abbrev mean_of_sidereal : goal.After-pair-mean
-  mean_of_sidereal = mean_of_obliquity c.before.before.before.before
-
-  sidereal_is : c.sidereal_pair.result
-      ≡ (let m = mean_of_sidereal in pair (remainder (neg_ℤ (local_sidereal (ut_of_lem m) (tt_of_lem m) (site_of_lem m)))))
-  unfolding local_sidereal
-  sidereal_is =
-      let m = mean_of_sidereal in
-      rw ((delta_psi_holds m).value, (cosine_holds m).value, (site_longitude_holds m).value) at c.sidereal_pair.ensures
-
-module _ (c : goal.After-latitude_pair) where
-  abbrev mean_of_latitude : goal.After-pair-mean
-  mean_of_latitude = mean_of_sidereal c.before.before
-
-  latitude_is : c.latitude_pair.result ≡ pair (remainder ((site_of_lem mean_of_latitude).latitude -ℤ pos quarter))
-  latitude_is = rw (site_latitude_holds mean_of_latitude).value at c.latitude_pair.ensures
+-- the pair of ε, as `pair` answered it
+mean_is : (t : Tt) {e : ℤ} {p : Pair} → InRange t.0 → e ≡ obliquity t → p ≡ pair (to_z w64 (bits e)) → p ≡ pair (obliquity t)
+mean_is t h i j = rw (epsilon_holds t h i).value at j
 
 -- ---- what each call is given
 
-pub precession_of-p-requires : goal.precession_of-p-requires
-precession_of-p-requires c = search rules
-
-pub nutation_of-n-requires : goal.nutation_of-n-requires
-nutation_of-n-requires c = search rules
-
-pub obliquity_of-epsilon-requires : goal.obliquity_of-epsilon-requires
-obliquity_of-epsilon-requires c = search rules
-
-pub pair-mean-requires : goal.pair-mean-requires
-pair-mean-requires c = search rules
-
-pub sun_longitude_of-requires : goal.sun_longitude_of-requires
-sun_longitude_of-requires c = search rules
-
-pub pair-sun-requires : goal.pair-sun-requires
-pair-sun-requires c = search rules
-
-pub perihelion_of-requires : goal.perihelion_of-requires
-perihelion_of-requires c = search rules
-
-pub pair-perihelion-requires : goal.pair-perihelion-requires
-pair-perihelion-requires c = search rules
-
-pub pair-requires : goal.pair-requires
-pair-requires c = search rules
-
-pub pair-requires-2 : goal.pair-requires-2
-pair-requires-2 c = search rules
-
 pub opposite_of-requires : goal.opposite_of-requires
-opposite_of-requires c = rw (theta_is c.before) (pair_sized _)
+opposite_of-requires c = rw c.pair-2.ensures (pair_sized _)
 
-pub pair-requires-3 : goal.pair-requires-3
-pair-requires-3 c = search rules
+pub aberration-requires-clause-sun_sized : goal.aberration-requires-clause-sun_sized
+aberration-requires-clause-sun_sized c = rw c.pair-sun.ensures (pair_sized _)
 
-pub aberration-requires : goal.aberration-requires
-aberration-requires c = simp (sun_is, perihelion_is, mean_is) (record { sized = pair_sized _; sized_2 = pair_sized _; sized_3 = pair_sized _ })
+pub aberration-requires-clause-perihelion_sized : goal.aberration-requires-clause-perihelion_sized
+aberration-requires-clause-perihelion_sized c = rw c.pair-perihelion.ensures (pair_sized _)
+
+pub aberration-requires-clause-obliquity_sized : goal.aberration-requires-clause-obliquity_sized
+aberration-requires-clause-obliquity_sized c = rw c.pair-mean.ensures (pair_sized _)
 
 pub opposite_of-requires-2 : goal.opposite_of-requires-2
-opposite_of-requires-2 c = simp mean_is (pair_sized _)
-
-pub pair-requires-4 : goal.pair-requires-4
-pair-requires-4 c = search rules
+opposite_of-requires-2 c = rw c.pair-mean.ensures (pair_sized _)
 
 pub overflow_add-epsilon : goal.overflow_add-epsilon
-overflow_add-epsilon c = let m = mean_of_longitude c.before.before.before in add_ok (epsilon_holds m) (delta_epsilon_holds m) tt
-
-pub pair-requires-5 : goal.pair-requires-5
-pair-requires-5 c = search rules
+overflow_add-epsilon c =
+    let t = c.args.at.tt in
+    add_ok (epsilon_holds t c.requires.tt_in c.obliquity_of-epsilon.ensures)
+    (delta_epsilon_holds t c.requires.tt_in c.nutation_of-n.ensures) tt
 
 pub sidereal_pair-requires : goal.sidereal_pair-requires
 sidereal_pair-requires c =
-    let m = mean_of_obliquity c.before.before.before.before in
-    rw ((delta_psi_holds m).value, (cosine_holds m).value, (site_longitude_holds m).value)
-    (record {
-      instant = (start_of m).requires.ut_in;
-      nutation_le = (delta_psi_holds m).size;
-      cosine_le = (cosine_holds m).size;
-      longitude_le = omega (arith, (site_longitude_holds m).size);
-    })
+    let t = c.args.at.tt in
+    let h = c.requires.tt_in in
+    let n = delta_psi_holds t h c.nutation_of-n.ensures in
+    let e = cosine_holds (obliquity t) (mean_is t h c.obliquity_of-epsilon.ensures c.pair-mean.ensures) in
+    let l = longitude_holds c.args.site c.requires.accepted in
+    rw (n.value, e.value, l.value)
+    (record { nutation_le = n.size; cosine_le = e.size; longitude_le = omega (arith, l.size) })
 
 pub latitude_pair-requires : goal.latitude_pair-requires
 latitude_pair-requires c =
-    let m = mean_of_sidereal c.before.before in
-    rw (site_latitude_holds m).value (omega (arith, (site_latitude_holds m).size))
+    let l = latitude_holds c.args.site c.requires.accepted in rw l.value (omega (arith, l.size))
 
--- each part of the night is the rule's: the results in the goal tell at which stage each lemma is taken
+-- ---- the night fits the steps, whatever pairs it has, and each part of it is the rule's
+
+pair_accepted : (a : ℤ) {p : Pair} → p ≡ pair a → Accepted (pair_squares p)
+pair_accepted a i = rw i (pair_length a)
+
+opposite_accepted : (a : ℤ) {p q : Pair} → p ≡ pair a → q ≡ opposite p → Accepted (pair_squares q)
+opposite_accepted a i j = pair_accepted (neg_ℤ a) (j ∙ ap opposite i ∙ sym (pair_opposite a))
+
+aberration_small : {s p e : Pair} {v : Direction} → Sized s → Sized p → Sized e → v ≡ aberration s p e → PartsLe most_added v
+aberration_small {s} {p} {e} hs hp he i =
+    let a = aberration_le s p hs hp e he in
+    rw i (record { x = omega (arith, a.x); y = omega (arith, a.y); z = omega (arith, a.z) })
+
+pub invariant_of-result : goal.invariant_of-result
+invariant_of-result c = record {
+  instant = c.requires.tt_in;
+  zeta = pair_accepted _ c.pair.ensures;
+  minus_theta = opposite_accepted _ c.pair-2.ensures c.opposite_of.ensures;
+  z = pair_accepted _ c.pair-3.ensures;
+  aberration = aberration_small (rw c.pair-sun.ensures (pair_sized _)) (rw c.pair-perihelion.ensures (pair_sized _))
+      (rw c.pair-mean.ensures (pair_sized _)) c.aberration.ensures;
+  minus_epsilon = opposite_accepted _ c.pair-mean.ensures c.opposite_of-2.ensures;
+  delta_psi = pair_accepted _ c.pair-4.ensures;
+  true_epsilon = pair_accepted _ c.pair-5.ensures;
+  minus_sidereal = pair_accepted _ c.sidereal_pair.ensures;
+  latitude_less_quarter = pair_accepted _ c.latitude_pair.ensures;
+}
+
 pub returns : goal.returns
-unfolding night
+unfolding night local_sidereal
 returns c =
-    simp (
-      zeta_is,
-      opposite_theta_is,
-      z_is,
-      aberration_is,
-      opposite_mean_is,
-      longitude_is,
-      obliquity_is,
-      sidereal_is,
-      latitude_is,
+    let t = c.args.at.tt in
+    let h = c.requires.tt_in in
+    let p = c.precession_of-p in
+    let n = c.nutation_of-n in
+    let sun = c.sun_longitude_of in
+    let angle = c.perihelion_of in
+    let zeta_held : to_z w64 (of_z w64 p.result.zeta) ≡ p.result.zeta = search rules in
+    let theta_held : to_z w64 (of_z w64 p.result.theta) ≡ p.result.theta = search rules in
+    let z_held : to_z w64 (of_z w64 p.result.z) ≡ p.result.z = search rules in
+    let mean = mean_is t h c.obliquity_of-epsilon.ensures c.pair-mean.ensures in
+    let delta_psi = delta_psi_holds t h n.ensures in
+    let epsilon = add (epsilon_holds t h c.obliquity_of-epsilon.ensures) (delta_epsilon_holds t h n.ensures) tt in
+    rw (
+      rw zeta_held at c.pair.ensures ∙ ap (λ (p : Precession). pair p.zeta) p.ensures,
+      c.opposite_of.ensures ∙ ap opposite (rw theta_held at c.pair-2.ensures ∙ ap (λ (p : Precession). pair p.theta) p.ensures)
+          ∙ sym (pair_opposite _),
+      rw z_held at c.pair-3.ensures ∙ ap (λ (p : Precession). pair p.z) p.ensures,
+      c.aberration.ensures,
+      rw (held64 sun.result sun.type_inv ∙ sun.ensures) at c.pair-sun.ensures,
+      rw (held64 angle.result angle.type_inv ∙ angle.ensures) at c.pair-perihelion.ensures,
+      mean,
+      c.opposite_of-2.ensures ∙ ap opposite mean ∙ sym (pair_opposite _),
+      rw delta_psi.value at c.pair-4.ensures,
+      rw epsilon.value at c.pair-5.ensures,
+      rw (delta_psi.value, (cosine_holds (obliquity t) mean).value, (longitude_holds c.args.site c.requires.accepted).value)
+          at c.sidereal_pair.ensures,
+      rw (latitude_holds c.args.site c.requires.accepted).value at c.latitude_pair.ensures,
     )

@@ -1,5 +1,5 @@
 -- A star that is refused, or its place.
-use Rattle.std.proofs.Common.{◌≡◌, sym, ap, ◌∙◌, false}
+use Rattle.std.proofs.Common.{rules, ◌≡◌, sym, ap, ◌∙◌, false}
 use Rattle.rules.specs.Stars.{star_refused}
 use Rattle.rules.specs.ListReading.{fresh_entry}
 use Rattle.rules.specs.NightList as nights
@@ -7,10 +7,10 @@ use Rattle.night_list_checks.proofs.worked.Goals as goal
 
 pub returns-then-star_refused : goal.returns-then-star_refused
 unfolding nights.worked fresh_entry
-returns-then-star_refused c = let out = sym c.star_refused.ensures ∙ c.if-star_refused.true in simp out
+returns-then-star_refused c = let out = sym c.star_refused.ensures ∙ c.if-star_refused.true in simp out (search rules)
 
 pub place_in-requires : goal.place_in-requires
-place_in-requires c = record { night = c.requires; star = sym c.star_refused.ensures ∙ c.if-star_refused.false }
+place_in-requires c = sym c.star_refused.ensures ∙ c.if-star_refused.false
 
 pub returns : goal.returns
 unfolding nights.worked fresh_entry

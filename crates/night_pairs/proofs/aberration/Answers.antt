@@ -1,27 +1,27 @@
 -- `night_pairs::aberration` meets its contract.
 use mathlib.Core.Path.{◌∙◌}
 use native.Mathlib.Omega.{arith}
-use borrow.Author.Rules.{rules}
 use Rattle.words.specs.Fits.{held64}
 use Rattle.words.specs.Holds.{Holds, bits, arg, got}
 use Rattle.rules.specs.Units.{unit}
 use Rattle.rules.specs.Night.{aberration_y, aberration}
 use Rattle.laws.specs.Night.{most_aberration, aberration_y_le}
 use Rattle.night_pairs.proofs.aberration.Goals as goal
+use Rattle.night_pairs.proofs.aberration.Goals.{After-aberration_y-by, Start}
 
-module _ (c : goal.Start) where
+module _ (c : Start) where
   cosine_holds : Holds (bits c.args.e.cosine) c.args.e.cosine unit
-  cosine_holds = arg c.args.e.cosine c.requires.sized_3.cosine_le tt
+  cosine_holds = arg c.args.e.cosine c.requires.obliquity_sized.cosine_le tt
 
   sine_holds : Holds (bits c.args.e.sine) c.args.e.sine unit
-  sine_holds = arg c.args.e.sine c.requires.sized_3.sine_le tt
+  sine_holds = arg c.args.e.sine c.requires.obliquity_sized.sine_le tt
 
-by_holds : (c : goal.After-aberration_y-by)
+by_holds : (c : After-aberration_y-by)
     → Holds (bits c.aberration_y-by.result) (aberration_y c.args.s c.args.p) most_aberration
 by_holds c =
     let start = c.before in
     got c.aberration_y-by.ensures
-    (aberration_y_le start.args.s start.args.p start.requires.sized start.requires.sized_2) tt
+    (aberration_y_le start.args.s start.args.p start.requires.sun_sized start.requires.perihelion_sized) tt
 
 pub returns : goal.returns
 unfolding aberration
@@ -38,22 +38,16 @@ returns c =
           ∙ rw (y.value, (sine_holds start).value) at c.scaled-2.ensures,
     )
 
-pub aberration_y-by-requires : goal.aberration_y-by-requires
-aberration_y-by-requires c = search rules
-
-pub aberration_x-requires : goal.aberration_x-requires
-aberration_x-requires c = search rules
-
 pub scaled-requires : goal.scaled-requires
 scaled-requires c =
     let start = c.before.before.before.before in
     let y = by_holds c.before.before.before in
     rw (y.value, (cosine_holds start).value)
-    (record { number_le = omega (arith, y.size); part_le = start.requires.sized_3.cosine_le })
+    (record { number_le = omega (arith, y.size); part_le = start.requires.obliquity_sized.cosine_le })
 
 pub scaled-requires-2 : goal.scaled-requires-2
 scaled-requires-2 c =
     let start = c.before.before.before.before.before.before in
     let y = by_holds c.before.before.before.before.before in
     rw (y.value, (sine_holds start).value)
-    (record { number_le = omega (arith, y.size); part_le = start.requires.sized_3.sine_le })
+    (record { number_le = omega (arith, y.size); part_le = start.requires.obliquity_sized.sine_le })

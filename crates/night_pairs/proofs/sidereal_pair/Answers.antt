@@ -1,6 +1,5 @@
 -- `night_pairs::sidereal_pair` meets its contract.
 use Prim.Native.Nat.{◌+◌, ◌^◌}
-use borrow.Author.Rules.{rules}
 use lib.IntN.{ℤ, ◌+ℤ◌, ◌*ℤ◌}
 use lib.Signed.{lt_z_yes}
 use Rattle.words.specs.Holds.{Holds, bits, ◌+ʷ◌, arg, got, lit, add, add_ok, negate, negate_ok, div_ok, rem}
@@ -9,24 +8,25 @@ use Rattle.rules.specs.Rounding.{rnd, remainder}
 use Rattle.rules.specs.Sidereal.{sidereal}
 use Rattle.laws.specs.Night.{scaled_le, sidereal_le}
 use Rattle.night_pairs.proofs.sidereal_pair.Goals as goal
+use Rattle.night_pairs.proofs.sidereal_pair.Goals.{After-scaled, After-sidereal_of, Start}
 
-nutation_holds : (c : goal.Start) → Holds (bits c.args.nutation) c.args.nutation (2 ^ 31)
+nutation_holds : (c : Start) → Holds (bits c.args.nutation) c.args.nutation (2 ^ 31)
 nutation_holds c = arg c.args.nutation c.requires.nutation_le tt
 
-cosine_holds : (c : goal.Start) → Holds (bits c.args.cosine) c.args.cosine unit
+cosine_holds : (c : Start) → Holds (bits c.args.cosine) c.args.cosine unit
 cosine_holds c = arg c.args.cosine c.requires.cosine_le tt
 
-longitude_holds : (c : goal.Start) → Holds (bits c.args.longitude) c.args.longitude circle
+longitude_holds : (c : Start) → Holds (bits c.args.longitude) c.args.longitude circle
 longitude_holds c = arg c.args.longitude c.requires.longitude_le tt
 
-sidereal_holds : (c : goal.After-sidereal_of)
+sidereal_holds : (c : After-sidereal_of)
     → Holds (bits c.sidereal_of.result) (sidereal c.args.ut) circle
 sidereal_holds c = got c.sidereal_of.ensures (sidereal_le c.args.ut) tt
 
-abbrev equinoxes : goal.Start → ℤ
+abbrev equinoxes : Start → ℤ
 equinoxes c = rnd (c.args.nutation *ℤ c.args.cosine) unit
 
-equinoxes_hold : (c : goal.After-scaled)
+equinoxes_hold : (c : After-scaled)
     → Holds (bits c.scaled.result) (equinoxes c.before.before) (2 ^ 31)
 equinoxes_hold c =
     let start = c.before.before in
@@ -34,10 +34,10 @@ equinoxes_hold c =
     got (rw ((nutation_holds start).value, (cosine_holds start).value) at c.scaled.ensures)
     (scaled_le a.nutation a.cosine (2 ^ 31) start.requires.nutation_le start.requires.cosine_le) tt
 
-abbrev longitude : goal.After-scaled → ℤ
+abbrev longitude : After-scaled → ℤ
 longitude c = c.args.longitude
 
-local_holds : (c : goal.After-scaled)
+local_holds : (c : After-scaled)
     → Holds (bits c.sidereal_of.result +ʷ bits c.scaled.result +ʷ bits (longitude c))
     (sidereal c.args.ut +ℤ equinoxes c.before.before +ℤ longitude c)
     (circle + 2 ^ 31 + circle)
@@ -48,12 +48,6 @@ pub returns : goal.returns
 unfolding remainder
 returns c =
     rw (rem (negate (local_holds c.before) tt) (lit circle tt) (lt_z_yes tt) tt).value at c.pair.ensures
-
-pub sidereal_of-requires : goal.sidereal_of-requires
-sidereal_of-requires c = search rules
-
-pub scaled-requires : goal.scaled-requires
-scaled-requires c = search rules
 
 pub overflow_add-local : goal.overflow_add-local
 overflow_add-local c = add_ok (sidereal_holds c.before) (equinoxes_hold c) tt
@@ -67,6 +61,3 @@ overflow_sub-local c = negate_ok (local_holds c) tt
 
 pub nonzero_rem-local : goal.nonzero_rem-local
 nonzero_rem-local c = div_ok (negate (local_holds c) tt) (lit circle tt) (lt_z_yes tt) tt
-
-pub pair-requires : goal.pair-requires
-pair-requires c = search rules

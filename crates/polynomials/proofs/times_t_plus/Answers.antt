@@ -3,7 +3,7 @@ use mathlib.Core.Path.{◌≡◌}
 use Prim.Native.Nat.{◌^◌}
 use native.Mathlib.Nat.{mul-le-mul}
 use lib.Dec.{lit<}
-use lib.IntN.{ℤ, ◌*ℤ◌}
+use lib.IntN.{◌*ℤ◌}
 use mir.Syntax.{w64}
 use mir.Val.{to_z, of_z}
 use mir.Facts.{to_z-of_z}

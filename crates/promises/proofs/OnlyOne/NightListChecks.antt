@@ -6,20 +6,16 @@ use prog.Routine.{Routine}
 use types.Logic.{Logic}
 use contract.Monad.{Fun}
 use Rattle.promises.specs.OfContracts.{OneAnswer, one}
-use Rattle.night_list_checks.specs.contracts.plan_of as plan_of
-use Rattle.night_list_checks.specs.contracts.entry_after as entry_after
-use Rattle.night_list_checks.specs.contracts.tally as tally
-use Rattle.night_list_checks.specs.contracts.answer as answer
+use Rattle.night_list_checks.specs.contracts.night_for as night_for
+use Rattle.night_list_checks.specs.contracts.worked as worked
+use Rattle.night_list_checks.specs.contracts.filled as filled
 
 module _ {M : Type 1} {𝓤 : Ura M} (𝓛 : Logic 𝓤) (mem : Memory → SProp 𝓤) (run : Routine → Fun 𝓤) where
-  pub plan_of_one : OneAnswer 𝓤 plan_of.ended (plan_of.clauses 𝓛 mem run)
-  plan_of_one κs passed g r s x y = one 𝓤 r s _
+  pub night_for_one : OneAnswer 𝓤 night_for.ended (night_for.clauses 𝓛 mem run)
+  night_for_one κs passed g r s x y = one 𝓤 r s _
 
-  pub entry_after_one : OneAnswer 𝓤 entry_after.ended (entry_after.clauses 𝓛 mem run)
-  entry_after_one κs passed g r s x y = one 𝓤 r s _
+  pub worked_one : OneAnswer 𝓤 worked.ended (worked.clauses 𝓛 mem run)
+  worked_one κs passed g r s x y = one 𝓤 r s _
 
-  pub tally_one : OneAnswer 𝓤 tally.ended (tally.clauses 𝓛 mem run)
-  tally_one κs passed g r s x y = one 𝓤 r s _
-
-  pub answer_one : OneAnswer 𝓤 answer.ended (answer.clauses 𝓛 mem run)
-  answer_one κs passed g r s x y = one 𝓤 r s _
+  pub filled_one : OneAnswer 𝓤 filled.ended (filled.clauses 𝓛 mem run)
+  filled_one κs passed g r s x y = one 𝓤 r s _

@@ -25,6 +25,14 @@ use Rattle.tests_functions.specs.contracts.numbers.tests_whole_root as tests_who
 use Rattle.tests_functions.specs.contracts.numbers.tests_on_circle as tests_on_circle
 use Rattle.tests_functions.specs.contracts.numbers.tests_rnd_product_quotient as tests_rnd_product_quotient
 use Rattle.tests_functions.specs.contracts.pairs.tests_pair as tests_pair
+use Rattle.tests_functions.specs.contracts.angle_sets.TestsPrecessedFromResultPrecessionRefusal.from as tests_precessed_from
+use Rattle.tests_functions.specs.contracts.angle_sets.TestsFiveArgumentsFromResultArgumentsRefusal.from as tests_five_arguments_from
+use Rattle.tests_functions.specs.contracts.angle_sets.TestsNutatedFromResultNutationRefusal.from as tests_nutated_from
+use Rattle.tests_functions.specs.contracts.angles.TestsAngleFromResultI64Refusal.from as tests_angle_from
+use Rattle.tests_functions.specs.contracts.days.TestsDayFromResultI64Refusal.from as tests_day_from
+use Rattle.tests_functions.specs.contracts.days.TestsDateFromResultDateRefusal.from as tests_date_from
+use Rattle.tests_functions.specs.contracts.moments.TestsInstantsFromResultInstantsRefusal.from as tests_instants_from
+use Rattle.tests_functions.specs.contracts.numbers.TriedFromOptionI64.from as tried_from
 
 module _ {M : Type 1} {𝓤 : Ura M} (𝓛 : Logic 𝓤) (mem : Memory → SProp 𝓤) (run : Routine → Fun 𝓤) where
   pub tests_aberration_one : OneAnswer 𝓤 tests_aberration.ended (tests_aberration.clauses 𝓛 mem run)
@@ -86,3 +94,28 @@ module _ {M : Type 1} {𝓤 : Ura M} (𝓛 : Logic 𝓤) (mem : Memory → SProp
 
   pub tests_pair_one : OneAnswer 𝓤 tests_pair.ended (tests_pair.clauses 𝓛 mem run)
   tests_pair_one κs passed g r s x y = one 𝓤 r s _
+
+  pub tests_precessed_from_one : OneAnswer 𝓤 tests_precessed_from.ended (tests_precessed_from.clauses 𝓛 mem run)
+  tests_precessed_from_one κs passed g r s x y = one 𝓤 r s _
+
+  pub tests_five_arguments_from_one : OneAnswer 𝓤 tests_five_arguments_from.ended
+      (tests_five_arguments_from.clauses 𝓛 mem run)
+  tests_five_arguments_from_one κs passed g r s x y = one 𝓤 r s _
+
+  pub tests_nutated_from_one : OneAnswer 𝓤 tests_nutated_from.ended (tests_nutated_from.clauses 𝓛 mem run)
+  tests_nutated_from_one κs passed g r s x y = one 𝓤 r s _
+
+  pub tests_angle_from_one : OneAnswer 𝓤 tests_angle_from.ended (tests_angle_from.clauses 𝓛 mem run)
+  tests_angle_from_one κs passed g r s x y = one 𝓤 r s _
+
+  pub tests_day_from_one : OneAnswer 𝓤 tests_day_from.ended (tests_day_from.clauses 𝓛 mem run)
+  tests_day_from_one κs passed g r s x y = one 𝓤 r s _
+
+  pub tests_date_from_one : OneAnswer 𝓤 tests_date_from.ended (tests_date_from.clauses 𝓛 mem run)
+  tests_date_from_one κs passed g r s x y = one 𝓤 r s _
+
+  pub tests_instants_from_one : OneAnswer 𝓤 tests_instants_from.ended (tests_instants_from.clauses 𝓛 mem run)
+  tests_instants_from_one κs passed g r s x y = one 𝓤 r s _
+
+  pub tried_from_one : OneAnswer 𝓤 tried_from.ended (tried_from.clauses 𝓛 mem run)
+  tried_from_one κs passed g r s x y = one 𝓤 r s _

@@ -1,6 +1,6 @@
 -- The round trips of the list file as C makes them: what the contracts of `turbelicus_list_count`,
 -- `turbelicus_list_star` and `turbelicus_list_write` tell together of calls one after the other.
-use Rattle.std.specs.Prelude.{◌≡◌, ℕ, length, drop, ℤ, pos, nat_abs}
+use Rattle.std.specs.Prelude.{◌≡◌, ℕ, length, drop, ℤ, pos, nat_abs, Result, Ok, Err}
 use Rattle.std.proofs.Math.Path.{refl, ap}
 use Rattle.std.proofs.Common.{sym, ◌∙◌, arith}
 use mathlib.Core.List.{List, [], ◌∷◌, ◌++◌, map, flat_map}
@@ -10,8 +10,6 @@ use prog.Memory.{Memory}
 use prog.Routine.{Routine}
 use types.Logic.{Logic}
 use contract.Monad.{Fun, conj, fact}
-use Rattle.rules.specs.declared.Listed.{Listed}
-use Rattle.rules.specs.declared.ListedStar.{ListedStar}
 use Rattle.rules.specs.Refusals.{given, refused}
 use Rattle.rules.specs.Answers.{listed_answer, listed_star_answer}
 use Rattle.rules.specs.ListReading.{list_count, list_star}
@@ -25,18 +23,20 @@ use Rattle.promises.specs.Calls.{all_tell, Each}
 use Rattle.promises.specs.RoundTrips as rules
 use Rattle.promises.specs.RoundTrips.FunctionsForC.{numbers_of}
 use Rattle.promises.specs.RoundTrips.FunctionsForC as stated
+use Rattle.rules.specs.declared.Refusal.{Refusal}
+use Rattle.rules.specs.declared.Star.{Star}
 
-numbers_out : (s : ListedStar) → numbers_of (starred_out (listed_star_answer s)) ≡ (listed_star_answer s).values
+numbers_out : (s : Result Star Refusal) → numbers_of (starred_out (listed_star_answer s)) ≡ (listed_star_answer s).values
 unfolding starred_out listed_star_answer given refused
-numbers_out (ListedStar.Of s) = refl
-numbers_out (ListedStar.Refused r) = refl
+numbers_out (Ok s) = refl
+numbers_out (Err r) = refl
 
 -- a struct without a refusal is that of a count, or of a length
-counted_is : (l : Listed) (a : TurbelicusCounted) → a ≡ counted_out (listed_answer l) → a.refused ≡ pos 0
-    → l ≡ Listed.Count a.count
+counted_is : (l : Result ℕ Refusal) (a : TurbelicusCounted) → a ≡ counted_out (listed_answer l) → a.refused ≡ pos 0
+    → l ≡ Ok a.count
 unfolding counted_out listed_answer given refused
-counted_is (Listed.Count n) a e z = sym (ap (λ s. Listed.Count s.count) e)
-counted_is (Listed.Refused r) a e z = absurd (omega (arith, ap nat_abs (sym z ∙ ap (λ s. s.refused) e), number_pos r))
+counted_is (Ok n) a e z = sym (ap (λ s. Ok s.count) e)
+counted_is (Err r) a e z = absurd (omega (arith, ap nat_abs (sym z ∙ ap (λ s. s.refused) e), number_pos r))
 
 module _ {M : Type 1} {𝓤 : Ura M} (𝓛 : Logic 𝓤) (mem : Memory → SProp 𝓤) (run : Routine → Fun 𝓤) where
   abbrev Counting : Type 0
@@ -93,7 +93,7 @@ module _ {M : Type 1} {𝓤 : Ura M} (𝓛 : Logic 𝓤) (mem : Memory → SProp
       all_together 𝓤 (id⊢ 𝓤 _) (all_tell 𝓤 _ _ (λ κs passed g a x. id⊢ 𝓤 _) stars) (id⊢ 𝓤 _) (λ p q r.
       let room = writes.passed.1.0.now in
       let n = counts.answer.count in
-      let count : list_count file ≡ Listed.Count n =
+      let count : list_count file ≡ Ok n =
       ap list_count (sym asked.counted)
       ∙ counted_is (list_count counts.passed.0.now) counts.answer p asked.accepted in
       let row : writes.passed.0.now ≡ rules.numbers_in file n =

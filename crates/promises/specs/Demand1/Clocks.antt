@@ -1,6 +1,6 @@
 -- Demand 1 of UTC of a TT: `utc::utc_of_tt` 20, and what C gets of it; of the rule, and of the functions themselves by
 -- their contracts. 13 is none of its answers.
-use Rattle.std.specs.Prelude.{◌≡◌, ◌↔◌, pos}
+use Rattle.std.specs.Prelude.{◌≡◌, ◌↔◌, pos, Ok, Err}
 use Rattle.std.proofs.Math.Path.{refl}
 use Rattle.std.proofs.Common.{sym, ap, ◌∙◌}
 use Rattle.std.proofs.Math.IntN.{nat_abs}
@@ -13,7 +13,6 @@ use contract.Monad.{Fun, fact_mono}
 use Rattle.rules.specs.declared.Tt.{Tt}
 use Rattle.rules.specs.declared.Utc.{Utc}
 use Rattle.rules.specs.declared.Refusal.{Refusal}
-use Rattle.rules.specs.declared.Clocked.{Clocked}
 use Rattle.rules.specs.Checks.{first}
 use Rattle.rules.specs.Refusals.{number, given, refused}
 use Rattle.rules.specs.Answers.{utc_numbers, clocked_answer}
@@ -31,19 +30,19 @@ use Rattle.module.specs.contracts.clocks.turbelicus_utc as turbelicus_utc
 
 -- ---- the rule
 
-pub utc_checked : (t : Tt) → utc_of_tt t ≡ first (stretch_checks t) Clocked.Refused (Clocked.At (utc_at t.0))
+pub utc_checked : (t : Tt) → utc_of_tt t ≡ first (stretch_checks t) Err (Ok (utc_at t.0))
 unfolding utc_of_tt first
 utc_checked t = refl
 
-pub utc_refused_lem : (t : Tt) (r : Refusal) → (utc_of_tt t ≡ Clocked.Refused r) ↔ FirstGiven (stretch_checks t) r
+pub utc_refused_lem : (t : Tt) (r : Refusal) → (utc_of_tt t ≡ Err r) ↔ FirstGiven (stretch_checks t) r
 unfolding clocked_answer given refused
 utc_refused_lem t r = rw (utc_checked t)
-    (refused_exactly (λ a. pos (clocked_answer a).number) Clocked.Refused _ (λ _. refl) refl (stretch_checks t) r)
+    (refused_exactly (λ a. pos (clocked_answer a).number) Err _ (λ _. refl) refl (stretch_checks t) r)
 
 pub utc_answer : (t : Tt)
     → clocked_answer (utc_of_tt t) ≡ first (stretch_checks t) (λ r. refused r 7) (given (utc_numbers (utc_at t.0)))
 unfolding clocked_answer
-utc_answer t = ap clocked_answer (utc_checked t) ∙ first_map clocked_answer (stretch_checks t) Clocked.Refused _
+utc_answer t = ap clocked_answer (utc_checked t) ∙ first_map clocked_answer (stretch_checks t) Err _
 
 -- ---- turbelicus_utc
 
@@ -90,7 +89,7 @@ turbelicus_utc_given t = rw (turbelicus_utc_checked t)
 
 module _ {M : Type 1} {𝓤 : Ura M} (𝓛 : Logic 𝓤) (mem : Memory → SProp 𝓤) (run : Routine → Fun 𝓤) where
   pub utc_of_tt_tells : Tells 𝓤 utc_of_tt_lem.ended (utc_of_tt_lem.clauses 𝓛 mem run)
-      (λ κs passed a x. Refuses a Clocked.Refused (stretch_checks passed.0))
+      (λ κs passed a x. Refuses a Err (stretch_checks passed.0))
   utc_of_tt_tells κs passed g a x = so_told 𝓤 (id⊢ 𝓤 _)
       (λ e r. rw e (utc_refused_lem passed.0 r))
 
@@ -101,10 +100,10 @@ module _ {M : Type 1} {𝓤 : Ura M} (𝓛 : Logic 𝓤) (mem : Memory → SProp
       (λ e r. rw e (turbelicus_utc_refused (tt_of passed.0) r))
 
   pub utc_of_tt_not_13 : Tells 𝓤 utc_of_tt_lem.ended (utc_of_tt_lem.clauses 𝓛 mem run)
-      (λ κs passed a x. Never13 a Clocked.Refused)
+      (λ κs passed a x. Never13 a Err)
   unfolding number
   utc_of_tt_not_13 κs passed g a x = so_told 𝓤 (utc_of_tt_tells κs passed g a x)
-      (never_13 a Clocked.Refused (stretch_checks passed.0) refl)
+      (never_13 a Err (stretch_checks passed.0) refl)
 
   pub turbelicus_utc_not_13 : Tells 𝓤 turbelicus_utc.ended (turbelicus_utc.clauses 𝓛 mem run)
       (λ κs passed a x. a.refused ≡ pos 13 → ⊥)

@@ -1,15 +1,11 @@
 -- Demand 1 of the angles at an instant, 12: of TT precession, obliquity and the arguments of nutation (`precession`,
 -- `arguments`), nutation (`nutation`), the Sun's longitude and the longitude of perihelion (`sun`), of UT the sidereal
 -- angle (`sidereal`).
-use Rattle.std.specs.Prelude.{◌≡◌, refl, ◌↔◌, [], ◌∷◌, ℤ, pos}
+use Rattle.std.specs.Prelude.{◌≡◌, refl, ◌↔◌, [], ◌∷◌, ℤ, pos, Ok, Err}
 use Rattle.std.proofs.Common.{ap, ◌∙◌}
 use Rattle.rules.specs.declared.Ut.{Ut}
 use Rattle.rules.specs.declared.Tt.{Tt}
 use Rattle.rules.specs.declared.Refusal.{Refusal}
-use Rattle.rules.specs.declared.Angle.{Angle}
-use Rattle.rules.specs.declared.Precessed.{Precessed}
-use Rattle.rules.specs.declared.FiveArguments.{FiveArguments}
-use Rattle.rules.specs.declared.Nutated.{Nutated}
 use Rattle.rules.specs.Checks.{first}
 use Rattle.rules.specs.Refusals.{given, refused}
 use Rattle.rules.specs.Answers.{angle_answer, precessed_answer, five_arguments_answer, nutated_answer}
@@ -26,15 +22,15 @@ use Rattle.promises.specs.Demand1.InOrder.{first_map, refused_exactly}
 -- ---- precession
 
 pub precession_checked : (t : Tt)
-    → precession_at t ≡ first (instant_checks t.0) Precessed.Refused (Precessed.By (precession t))
+    → precession_at t ≡ first (instant_checks t.0) Err (Ok (precession t))
 unfolding precession_at first
 precession_checked t = refl
 
 pub precession_refused : (t : Tt) (r : Refusal)
-    → (precession_at t ≡ Precessed.Refused r) ↔ FirstGiven (instant_checks t.0) r
+    → (precession_at t ≡ Err r) ↔ FirstGiven (instant_checks t.0) r
 unfolding precessed_answer given refused
 precession_refused t r = rw (precession_checked t)
-    (refused_exactly (λ a. pos (precessed_answer a).number) Precessed.Refused _ (λ _. refl) refl
+    (refused_exactly (λ a. pos (precessed_answer a).number) Err _ (λ _. refl) refl
     (instant_checks t.0) r)
 
 pub precession_answer : (t : Tt)
@@ -43,20 +39,20 @@ pub precession_answer : (t : Tt)
     (given ((precession t).zeta ∷ (precession t).z ∷ (precession t).theta ∷ []))
 unfolding precessed_answer
 precession_answer t =
-    ap precessed_answer (precession_checked t) ∙ first_map precessed_answer (instant_checks t.0) Precessed.Refused _
+    ap precessed_answer (precession_checked t) ∙ first_map precessed_answer (instant_checks t.0) Err _
 
 -- ---- the five arguments of nutation
 
 pub arguments_checked : (t : Tt)
-    → arguments_at t ≡ first (instant_checks t.0) FiveArguments.Refused (FiveArguments.By (arguments t))
+    → arguments_at t ≡ first (instant_checks t.0) Err (Ok (arguments t))
 unfolding arguments_at first
 arguments_checked t = refl
 
 pub arguments_refused : (t : Tt) (r : Refusal)
-    → (arguments_at t ≡ FiveArguments.Refused r) ↔ FirstGiven (instant_checks t.0) r
+    → (arguments_at t ≡ Err r) ↔ FirstGiven (instant_checks t.0) r
 unfolding five_arguments_answer given refused
 arguments_refused t r = rw (arguments_checked t)
-    (refused_exactly (λ a. pos (five_arguments_answer a).number) FiveArguments.Refused _ (λ _. refl) refl
+    (refused_exactly (λ a. pos (five_arguments_answer a).number) Err _ (λ _. refl) refl
     (instant_checks t.0) r)
 
 pub arguments_answer : (t : Tt)
@@ -67,50 +63,50 @@ pub arguments_answer : (t : Tt)
 unfolding five_arguments_answer
 arguments_answer t =
     ap five_arguments_answer (arguments_checked t)
-    ∙ first_map five_arguments_answer (instant_checks t.0) FiveArguments.Refused _
+    ∙ first_map five_arguments_answer (instant_checks t.0) Err _
 
 -- ---- nutation
 
 pub nutation_checked : (t : Tt)
-    → nutation_at t ≡ first (instant_checks t.0) Nutated.Refused (Nutated.By (nutation t))
+    → nutation_at t ≡ first (instant_checks t.0) Err (Ok (nutation t))
 unfolding nutation_at first
 nutation_checked t = refl
 
 pub nutation_refused : (t : Tt) (r : Refusal)
-    → (nutation_at t ≡ Nutated.Refused r) ↔ FirstGiven (instant_checks t.0) r
+    → (nutation_at t ≡ Err r) ↔ FirstGiven (instant_checks t.0) r
 unfolding nutated_answer given refused
 nutation_refused t r = rw (nutation_checked t)
-    (refused_exactly (λ a. pos (nutated_answer a).number) Nutated.Refused _ (λ _. refl) refl (instant_checks t.0) r)
+    (refused_exactly (λ a. pos (nutated_answer a).number) Err _ (λ _. refl) refl (instant_checks t.0) r)
 
 pub nutation_answer : (t : Tt)
     → nutated_answer (nutation_at t)
     ≡ first (instant_checks t.0) (λ r. refused r 2) (given ((nutation t).longitude ∷ (nutation t).obliquity ∷ []))
 unfolding nutated_answer
 nutation_answer t =
-    ap nutated_answer (nutation_checked t) ∙ first_map nutated_answer (instant_checks t.0) Nutated.Refused _
+    ap nutated_answer (nutation_checked t) ∙ first_map nutated_answer (instant_checks t.0) Err _
 
 -- ---- single angles
 
-angle_checked : (t a : ℤ) → angle_at t a ≡ first (instant_checks t) Angle.Refused (Angle.Of a)
+angle_checked : (t a : ℤ) → angle_at t a ≡ first (instant_checks t) Err (Ok a)
 unfolding angle_at first
 angle_checked t a = refl
 
-angle_refused : (t a : ℤ) (r : Refusal) → (angle_at t a ≡ Angle.Refused r) ↔ FirstGiven (instant_checks t) r
+angle_refused : (t a : ℤ) (r : Refusal) → (angle_at t a ≡ Err r) ↔ FirstGiven (instant_checks t) r
 unfolding angle_answer given refused
 angle_refused t a r = rw (angle_checked t a)
-    (refused_exactly (λ b. pos (angle_answer b).number) Angle.Refused _ (λ _. refl) refl (instant_checks t) r)
+    (refused_exactly (λ b. pos (angle_answer b).number) Err _ (λ _. refl) refl (instant_checks t) r)
 
 angle_answer_lem : (t a : ℤ) → angle_answer (angle_at t a) ≡ first (instant_checks t) (λ r. refused r 1) (given (a ∷ []))
 unfolding angle_answer
-angle_answer_lem t a = ap angle_answer (angle_checked t a) ∙ first_map angle_answer (instant_checks t) Angle.Refused _
+angle_answer_lem t a = ap angle_answer (angle_checked t a) ∙ first_map angle_answer (instant_checks t) Err _
 
 pub obliquity_checked : (t : Tt)
-    → obliquity_at t ≡ first (instant_checks t.0) Angle.Refused (Angle.Of (obliquity t))
+    → obliquity_at t ≡ first (instant_checks t.0) Err (Ok (obliquity t))
 unfolding obliquity_at
 obliquity_checked t = angle_checked t.0 (obliquity t)
 
 pub obliquity_refused : (t : Tt) (r : Refusal)
-    → (obliquity_at t ≡ Angle.Refused r) ↔ FirstGiven (instant_checks t.0) r
+    → (obliquity_at t ≡ Err r) ↔ FirstGiven (instant_checks t.0) r
 unfolding obliquity_at
 obliquity_refused t r = angle_refused t.0 (obliquity t) r
 
@@ -120,12 +116,12 @@ unfolding obliquity_at
 obliquity_answer t = angle_answer_lem t.0 (obliquity t)
 
 pub sun_checked : (t : Tt)
-    → sun_longitude_at t ≡ first (instant_checks t.0) Angle.Refused (Angle.Of (sun_longitude t))
+    → sun_longitude_at t ≡ first (instant_checks t.0) Err (Ok (sun_longitude t))
 unfolding sun_longitude_at
 sun_checked t = angle_checked t.0 (sun_longitude t)
 
 pub sun_refused : (t : Tt) (r : Refusal)
-    → (sun_longitude_at t ≡ Angle.Refused r) ↔ FirstGiven (instant_checks t.0) r
+    → (sun_longitude_at t ≡ Err r) ↔ FirstGiven (instant_checks t.0) r
 unfolding sun_longitude_at
 sun_refused t r = angle_refused t.0 (sun_longitude t) r
 
@@ -135,12 +131,12 @@ unfolding sun_longitude_at
 sun_answer t = angle_answer_lem t.0 (sun_longitude t)
 
 pub perihelion_checked : (t : Tt)
-    → perihelion_at t ≡ first (instant_checks t.0) Angle.Refused (Angle.Of (perihelion t))
+    → perihelion_at t ≡ first (instant_checks t.0) Err (Ok (perihelion t))
 unfolding perihelion_at
 perihelion_checked t = angle_checked t.0 (perihelion t)
 
 pub perihelion_refused : (t : Tt) (r : Refusal)
-    → (perihelion_at t ≡ Angle.Refused r) ↔ FirstGiven (instant_checks t.0) r
+    → (perihelion_at t ≡ Err r) ↔ FirstGiven (instant_checks t.0) r
 unfolding perihelion_at
 perihelion_refused t r = angle_refused t.0 (perihelion t) r
 
@@ -150,12 +146,12 @@ unfolding perihelion_at
 perihelion_answer t = angle_answer_lem t.0 (perihelion t)
 
 pub sidereal_checked : (t : Ut)
-    → sidereal_at t ≡ first (instant_checks t.0) Angle.Refused (Angle.Of (sidereal t))
+    → sidereal_at t ≡ first (instant_checks t.0) Err (Ok (sidereal t))
 unfolding sidereal_at
 sidereal_checked t = angle_checked t.0 (sidereal t)
 
 pub sidereal_refused : (t : Ut) (r : Refusal)
-    → (sidereal_at t ≡ Angle.Refused r) ↔ FirstGiven (instant_checks t.0) r
+    → (sidereal_at t ≡ Err r) ↔ FirstGiven (instant_checks t.0) r
 unfolding sidereal_at
 sidereal_refused t r = angle_refused t.0 (sidereal t) r
 

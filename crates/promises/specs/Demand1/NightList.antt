@@ -1,13 +1,11 @@
 -- Demand 1 of the night list, `night_list::night_list`: 1 to 4, 6, 11, and the entries as they were where one of these
 -- is given; then 5 for each entry, which marks that entry alone.
-use Rattle.std.specs.Prelude.{◌≡◌, refl, ◌↔◌, Bool, true, false, cond, List, map}
+use Rattle.std.specs.Prelude.{◌≡◌, refl, ◌↔◌, Bool, true, false, cond, List, map, Ok, Err}
 use Rattle.std.proofs.Common.{sym, ap, ◌∙◌, arith}
 use Rattle.rules.specs.declared.Moment.{Moment}
 use Rattle.rules.specs.declared.Site.{Site}
 use Rattle.rules.specs.declared.Night.{Night}
 use Rattle.rules.specs.declared.Entry.{Entry}
-use Rattle.rules.specs.declared.Prepared.{Prepared}
-use Rattle.rules.specs.declared.Listed.{Listed}
 use Rattle.rules.specs.Checks.{first}
 use Rattle.rules.specs.Stars.{star_refused}
 use Rattle.rules.specs.Place.{place_in}
@@ -26,11 +24,11 @@ worked_entries m site entries = map (worked (ready_night m site)) entries
 
 pub night_list_checked : (m : Moment) (site : Site) (entries : List Entry)
     → night_list m site entries
-    ≡ first (night_list_checks m site entries) Listed.Refused (Listed.Count (marked (worked_entries m site entries)))
+    ≡ first (night_list_checks m site entries) Err (Ok (marked (worked_entries m site entries)))
 unfolding night_list listed_in first
 night_list_checked m site entries =
     ap (λ p. listed_in p entries) (night_checked m site)
-    ∙ first_map (λ p. listed_in p entries) (night_checks m site) Prepared.Refused (Prepared.For (ready_night m site))
+    ∙ first_map (λ p. listed_in p entries) (night_checks m site) Err (Ok (ready_night m site))
 
 pub night_list_content : (m : Moment) (site : Site) (entries : List Entry)
     → entries_after_night m site entries
@@ -38,7 +36,7 @@ pub night_list_content : (m : Moment) (site : Site) (entries : List Entry)
 unfolding entries_after_night worked_in first
 night_list_content m site entries =
     ap (λ p. worked_in p entries) (night_checked m site)
-    ∙ first_map (λ p. worked_in p entries) (night_checks m site) Prepared.Refused (Prepared.For (ready_night m site))
+    ∙ first_map (λ p. worked_in p entries) (night_checks m site) Err (Ok (ready_night m site))
 
 -- ---- 5, for each entry
 

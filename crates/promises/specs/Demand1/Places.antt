@@ -1,5 +1,5 @@
 -- Demand 1 of places: `place::place` 1 to 4, 5, 6; `night::night_of` 1 to 4, 6.
-use Rattle.std.specs.Prelude.{◌≡◌, refl, ◌↔◌, List, [], ◌∷◌, ◌++◌, ℤ, pos}
+use Rattle.std.specs.Prelude.{◌≡◌, refl, ◌↔◌, List, [], ◌∷◌, ◌++◌, ℤ, pos, Ok, Err}
 use Rattle.std.proofs.Common.{ap, ◌∙◌}
 use Rattle.rules.specs.declared.Moment.{Moment}
 use Rattle.rules.specs.declared.Star.{Star}
@@ -8,8 +8,6 @@ use Rattle.rules.specs.declared.Night.{Night}
 use Rattle.rules.specs.declared.Place.{Place}
 use Rattle.rules.specs.declared.Refusal.{Refusal}
 use Rattle.rules.specs.declared.Instants.{Instants}
-use Rattle.rules.specs.declared.Prepared.{Prepared}
-use Rattle.rules.specs.declared.Placed.{Placed}
 use Rattle.rules.specs.Checks.{first}
 use Rattle.rules.specs.Refusals.{given, refused}
 use Rattle.rules.specs.Answers.{or_nought, flag, prepared_answer, parts}
@@ -20,6 +18,7 @@ use Rattle.laws.specs.Checks.{FirstGiven}
 use Rattle.promises.specs.Demand1.Checks.{date_checks, place_checks, night_checks}
 use Rattle.promises.specs.Demand1.InOrder.{first_map, refused_exactly}
 use Rattle.promises.specs.Demand1.Dates.{instants_checked}
+use Rattle.rules.specs.Dates.{ut_and_tt}
 
 -- what a moment and a site make ready, where none of their checks is given
 abbrev pub ready_night : Moment → Site → Night
@@ -29,11 +28,11 @@ ready_night m site = night (ut_of m) (tt_of m) site
 
 pub place_checked : (m : Moment) (star : Star) (site : Site)
     → place m star site
-    ≡ first (place_checks m star site) Placed.Refused (Placed.At (place_in (ready_night m site) star))
+    ≡ first (place_checks m star site) Err (Ok (place_in (ready_night m site) star))
 unfolding place place_at first
 place_checked m star site =
     ap (λ i. place_at i star site) (instants_checked m)
-    ∙ first_map (λ i. place_at i star site) (date_checks m) Instants.Refused (Instants.At (ut_of m) (tt_of m))
+    ∙ first_map (λ i. place_at i star site) (date_checks m) Err (Ok (ut_and_tt (ut_of m) (tt_of m)))
 
 -- right ascension with its flag, declination, azimuth with its flag, altitude
 abbrev pub six_numbers : Place → List ℤ
@@ -44,17 +43,17 @@ six_numbers p =
 -- ---- a moment and a site made ready
 
 pub night_checked : (m : Moment) (site : Site)
-    → night_of m site ≡ first (night_checks m site) Prepared.Refused (Prepared.For (ready_night m site))
+    → night_of m site ≡ first (night_checks m site) Err (Ok (ready_night m site))
 unfolding night_of night_at first
 night_checked m site =
     ap (λ i. night_at i site) (instants_checked m)
-    ∙ first_map (λ i. night_at i site) (date_checks m) Instants.Refused (Instants.At (ut_of m) (tt_of m))
+    ∙ first_map (λ i. night_at i site) (date_checks m) Err (Ok (ut_and_tt (ut_of m) (tt_of m)))
 
 pub night_refused : (m : Moment) (site : Site) (r : Refusal)
-    → (night_of m site ≡ Prepared.Refused r) ↔ FirstGiven (night_checks m site) r
+    → (night_of m site ≡ Err r) ↔ FirstGiven (night_checks m site) r
 unfolding prepared_answer given refused
 night_refused m site r = rw (night_checked m site)
-    (refused_exactly (λ a. pos (prepared_answer a).number) Prepared.Refused _ (λ _. refl) refl (night_checks m site) r)
+    (refused_exactly (λ a. pos (prepared_answer a).number) Err _ (λ _. refl) refl (night_checks m site) r)
 
 -- TT, then what each of the steps 3 to 6 takes
 abbrev pub twenty_numbers : Night → List ℤ
@@ -67,4 +66,4 @@ pub night_answer : (m : Moment) (site : Site)
     ≡ first (night_checks m site) (λ r. refused r 20) (given (twenty_numbers (ready_night m site)))
 unfolding prepared_answer
 night_answer m site = ap prepared_answer (night_checked m site)
-    ∙ first_map prepared_answer (night_checks m site) Prepared.Refused _
+    ∙ first_map prepared_answer (night_checks m site) Err _

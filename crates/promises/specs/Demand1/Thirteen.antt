@@ -1,14 +1,12 @@
 -- Refusal 13, "length to be divided by is nought": the rule of bringing to length gives it, of a length of nought and
 -- of no other, and no entry point comes to it. `ThirteenByContract` and `ThirteenForC` say so of the functions
 -- themselves.
-use Rattle.std.specs.Prelude.{◌≡◌, refl, ◌↔◌, Bool, true, false, not, ◌&&◌, cond, List, [], ◌∷◌, ℕ, eqb, ℤ}
+use Rattle.std.specs.Prelude.{◌≡◌, refl, ◌↔◌, Bool, true, false, not, ◌&&◌, cond, List, [], ◌∷◌, ℕ, eqb, ℤ, Err}
 use Rattle.std.proofs.Common.{sym, ap, ◌∙◌, inl, inr, arith, eq-eqb, eqb-true}
 use Rattle.rules.specs.declared.Moment.{Moment}
 use Rattle.rules.specs.declared.Site.{Site}
 use Rattle.rules.specs.declared.Direction.{Direction}
 use Rattle.rules.specs.declared.Refusal.{Refusal}
-use Rattle.rules.specs.declared.Turned.{Turned}
-use Rattle.rules.specs.declared.Prepared.{Prepared}
 use Rattle.rules.specs.Checks.{Check, first}
 use Rattle.rules.specs.Refusals.{Answer, number, given, refused}
 use Rattle.rules.specs.Length.{squares, root, length_refused, brought_to_length}
@@ -20,6 +18,7 @@ use Rattle.promises.specs.Demand1.Checks.{length_checks, turn_checks, night_chec
 use Rattle.promises.specs.Demand1.InOrder.{Refuses}
 use Rattle.promises.specs.Demand1.Turns.{length_refused_lem, turn_refused_lem}
 use Rattle.promises.specs.Demand1.Places.{night_refused}
+use Rattle.rules.specs.Dates.{ut_and_tt}
 
 -- ---- the rule has it
 
@@ -29,7 +28,7 @@ unfolding number
 thirteen = refl
 
 -- given exactly when the length is nought
-pub length_13 : (v : Direction) → (brought_to_length v ≡ Turned.Refused Refusal.Length) ↔ (root (squares v) ≡ 0)
+pub length_13 : (v : Direction) → (brought_to_length v ≡ Err Refusal.Length) ↔ (root (squares v) ≡ 0)
 unfolding length_refused
 length_13 v = (
   λ e. there ((length_refused_lem v Refusal.Length).0 e),
@@ -83,10 +82,10 @@ pub number_not_13 : (answer : Answer) (cs : List Check) (count : ℕ) (values : 
     → answer ≡ first cs (λ r. refused r count) (given values) → without13 cs ≡ true → answer.number ≡ 13 → ⊥
 number_not_13 answer cs count values h w e = paper_not_13 cs count values w (sym (ap (λ a. a.number) h) ∙ e)
 
-pub turned_not_13 : (axis angle : ℤ) (v : Direction) → Never13 (turned axis angle v) Turned.Refused
+pub turned_not_13 : (axis angle : ℤ) (v : Direction) → Never13 (turned axis angle v) Err
 unfolding number
-turned_not_13 axis angle v = never_13 _ Turned.Refused (turn_checks axis angle v) refl (turn_refused_lem axis angle v)
+turned_not_13 axis angle v = never_13 _ Err (turn_checks axis angle v) refl (turn_refused_lem axis angle v)
 
-pub night_not_13 : (m : Moment) (site : Site) → Never13 (night_of m site) Prepared.Refused
+pub night_not_13 : (m : Moment) (site : Site) → Never13 (night_of m site) Err
 unfolding number
-night_not_13 m site = never_13 _ Prepared.Refused (night_checks m site) refl (night_refused m site)
+night_not_13 m site = never_13 _ Err (night_checks m site) refl (night_refused m site)

@@ -1,6 +1,6 @@
 -- Refusal 13 of what C calls: by the contract of each function, whatever is passed, the number that C gets is not 13.
 -- `turbelicus_reading` refuses nothing and has no such number.
-use Rattle.std.specs.Prelude.{◌≡◌, pos}
+use Rattle.std.specs.Prelude.{◌≡◌, pos, Result, Ok, Err}
 use Rattle.std.proofs.Math.Path.{refl}
 use Rattle.std.proofs.Common.{sym, ap, ◌∙◌, arith}
 use seplogic.Ra.Ura.{Ura}
@@ -10,7 +10,6 @@ use prog.Routine.{Routine}
 use types.Logic.{Logic}
 use contract.Monad.{Fun, fact_mono}
 use Rattle.std.proofs.Math.IntN.{nat_abs}
-use Rattle.rules.specs.declared.Weathered.{Weathered}
 use Rattle.rules.specs.Refusals.{number}
 use Rattle.rules.specs.Answers.{weathered_number}
 use Rattle.answers.specs.Answers.{record_out, weathered_out, altitude_out}
@@ -27,12 +26,13 @@ use Rattle.module.specs.contracts.probe.turbelicus_observed_altitude as turbelic
 use Rattle.module.specs.contracts.lists.turbelicus_list_count as turbelicus_list_count
 use Rattle.module.specs.contracts.lists.turbelicus_list_star as turbelicus_list_star
 use Rattle.module.specs.contracts.lists.turbelicus_list_write as turbelicus_list_write
+use Rattle.rules.specs.declared.Weather.{Weather}
 
 -- a weather record has 0 or 14
-weathered_not_13 : (a : Weathered) → weathered_number a ≡ 13 → ⊥
+weathered_not_13 : (a : Result Weather Weather) → weathered_number a ≡ 13 → ⊥
 unfolding weathered_number number
-weathered_not_13 (Weathered.Now w) e = omega arith
-weathered_not_13 (Weathered.Refused w) e = omega arith
+weathered_not_13 (Ok w) e = omega arith
+weathered_not_13 (Err w) e = omega arith
 
 module _ {M : Type 1} {𝓤 : Ura M} (𝓛 : Logic 𝓤) (mem : Memory → SProp 𝓤) (run : Routine → Fun 𝓤) where
   pub turbelicus_turn_not_13 : Tells 𝓤 turbelicus_turn.ended (turbelicus_turn.clauses 𝓛 mem run)

@@ -1,7 +1,7 @@
 -- Demand 1 at the boundary to C, of the weather (C-11): a struct is a refusal's number and noughts, or 14 and the record
 -- as it was, exactly when that refusal is the first of the checks that is given; and the rule's answer exactly when none
 -- is.
-use Rattle.std.specs.Prelude.{◌≡◌, refl, ◌↔◌, Bool, true, false, not, cond, ℤ, pos, nat_abs, Float}
+use Rattle.std.specs.Prelude.{◌≡◌, refl, ◌↔◌, Bool, true, false, not, cond, ℤ, pos, nat_abs, Float, Result, Ok, Err}
 use Rattle.std.proofs.Common.{ap, ◌∙◌, arith}
 use Rattle.rules.specs.declared.Moment.{Moment}
 use Rattle.rules.specs.declared.Star.{Star}
@@ -9,7 +9,6 @@ use Rattle.rules.specs.declared.Site.{Site}
 use Rattle.rules.specs.declared.Place.{Place}
 use Rattle.rules.specs.declared.Reading.{Reading}
 use Rattle.rules.specs.declared.Weather.{Weather}
-use Rattle.rules.specs.declared.Weathered.{Weathered}
 use Rattle.rules.specs.declared.Refusal.{Refusal}
 use Rattle.rules.specs.Units.{same, +◌}
 use Rattle.rules.specs.Checks.{first}
@@ -46,20 +45,20 @@ reading_of kind x =
 
 kind_checked : (w : Weather) (kind : ℤ) (x : Float)
     → taken_by_kind w kind x
-    ≡ first (kind_checks w kind x) (λ _. Weathered.Refused w) (Weathered.Now (with_reading (mended w) (reading_of kind x)))
+    ≡ first (kind_checks w kind x) (λ _. Err w) (Ok (with_reading (mended w) (reading_of kind x)))
 unfolding taken_by_kind first is_accepted
 kind_checked w kind x = by (same kind (+ 0)) (same kind (+ 1)) (same kind (+ 2))
   where
-    either : (b : Bool) → Weathered.Refused w ≡ cond b (Weathered.Refused w) (Weathered.Refused w)
+    either : (b : Bool) → ◌≡◌ {A = Result Weather Weather} (Err w) (cond b (Err w) (Err w))
     either true = refl
     either false = refl
 
     by : (a b c : Bool)
         → cond a (taken_from w Reading.Nothing) (cond b (taken_from w (Reading.Pressure x))
-        (cond c (taken_from w (Reading.Temperature x)) (Weathered.Refused w)))
-        ≡ cond (not (in_range (mended w))) (Weathered.Refused w)
-        (cond (cond a false (cond b (not (is_pressure x)) (cond c (not (is_temperature x)) true))) (Weathered.Refused w)
-        (Weathered.Now (with_reading (mended w)
+        (cond c (taken_from w (Reading.Temperature x)) (Err w)))
+        ≡ cond (not (in_range (mended w))) (Err w)
+        (cond (cond a false (cond b (not (is_pressure x)) (cond c (not (is_temperature x)) true))) (Err w)
+        (Ok (with_reading (mended w)
         (cond a Reading.Nothing (cond b (Reading.Pressure x) (Reading.Temperature x))))))
     by true b c = weather_checked w Reading.Nothing
     by false true c = weather_checked w (Reading.Pressure x)
@@ -71,7 +70,7 @@ turbelicus_weather_checked : (w : Weather) (kind : ℤ) (x : Float)
     ≡ first (kind_checks w kind x) (λ _. weather_refused w) (weather_given (with_reading (mended w) (reading_of kind x)))
 unfolding weathered_out weathered_number weathered_record
 turbelicus_weather_checked w kind x = ap weathered_out (kind_checked w kind x)
-    ∙ first_map weathered_out (kind_checks w kind x) (λ _. Weathered.Refused w) _
+    ∙ first_map weathered_out (kind_checks w kind x) (λ _. Err w) _
 
 apart : (w v : Weather) → weather_refused w ≡ weather_given v → ⊥
 unfolding record_out number

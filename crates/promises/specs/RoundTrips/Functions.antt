@@ -1,6 +1,6 @@
 -- The round trips of the functions themselves: what the contracts tell of two calls one after the other, where the
 -- second is given what the first answered or left.
-use Rattle.std.specs.Prelude.{◌≡◌, ◌++◌, map, ℕ, ◌≤◌, length, take, drop, ℤ, neg_ℤ}
+use Rattle.std.specs.Prelude.{◌≡◌, ◌++◌, map, ℕ, ◌≤◌, length, take, drop, ℤ, neg_ℤ, Ok}
 use Rattle.std.proofs.Common.{sym, ap, ◌∙◌}
 use seplogic.Ra.Ura.{Ura}
 use base.Logic.{SProp, ent, id⊢}
@@ -8,9 +8,6 @@ use prog.Memory.{Memory}
 use prog.Routine.{Routine}
 use types.Logic.{Logic}
 use contract.Monad.{Fun, conj, fact}
-use Rattle.rules.specs.declared.Numbered.{Numbered}
-use Rattle.rules.specs.declared.Dated.{Dated}
-use Rattle.rules.specs.declared.Listed.{Listed}
 use Rattle.rules.specs.Calendar.{date_of}
 use Rattle.rules.specs.ListReading.{fresh_entry}
 use Rattle.rules.specs.ListWriting.{stars_of}
@@ -42,11 +39,11 @@ module _ {M : Type 1} {𝓤 : Ura M} (𝓛 : Logic 𝓤) (mem : Memory → SProp
 
   -- a file read, and the entries that were read written into room for it
   pub read_list_then_write_list : (reads : Reading) (writes : Writing) (count : ℕ)
-      → Bytes reads.passed.0.now → reads.answer ≡ Listed.Count count
+      → Bytes reads.passed.0.now → reads.answer ≡ Ok count
       → writes.passed.0.now ≡ take count reads.exit.1.0.now
       → length reads.passed.0.now ≤ length writes.passed.1.0.now
       → ent 𝓤 (conj 𝓤 (reading_told reads) (writing_told writes))
-      (fact 𝓤 ((writes.answer ≡ Listed.Count (length reads.passed.0.now))
+      (fact 𝓤 ((writes.answer ≡ Ok (length reads.passed.0.now))
       × (writes.exit.1.0.now
       ≡ reads.passed.0.now ++ drop (length reads.passed.0.now) writes.passed.1.0.now)))
   read_list_then_write_list reads writes count byte e f l = together 𝓤 (id⊢ 𝓤 _) (id⊢ 𝓤 _) (λ p q.
@@ -58,11 +55,11 @@ module _ {M : Type 1} {𝓤 : Ura M} (𝓛 : Logic 𝓤) (mem : Memory → SProp
 
   -- entries written, and the file that was written read into room for them
   pub write_list_then_read_list : (writes : Writing) (reads : Reading) (size : ℕ)
-      → writes.answer ≡ Listed.Count size
+      → writes.answer ≡ Ok size
       → reads.passed.0.now ≡ take size writes.exit.1.0.now
       → length writes.passed.0.now ≤ length reads.passed.1.0.now
       → ent 𝓤 (conj 𝓤 (writing_told writes) (reading_told reads))
-      (fact 𝓤 ((reads.answer ≡ Listed.Count (length writes.passed.0.now))
+      (fact 𝓤 ((reads.answer ≡ Ok (length writes.passed.0.now))
       × (reads.exit.1.0.now
       ≡ map fresh_entry (stars_of writes.passed.0.now)
       ++ drop (length writes.passed.0.now) reads.passed.1.0.now)))
@@ -88,14 +85,14 @@ module _ {M : Type 1} {𝓤 : Ura M} (𝓛 : Logic 𝓤) (mem : Memory → SProp
   date_told = told 𝓤 date_of_lem.ended (date_of_lem.clauses 𝓛 mem run)
 
   pub day_of_then_date_of : (day : DayCall) (date : DateCall) (n : ℤ)
-      → day.answer ≡ Numbered.Day n → date.passed.0 ≡ n
-      → ent 𝓤 (conj 𝓤 (day_told day) (date_told date)) (fact 𝓤 (date.answer ≡ Dated.On day.passed.0))
+      → day.answer ≡ Ok n → date.passed.0 ≡ n
+      → ent 𝓤 (conj 𝓤 (day_told day) (date_told date)) (fact 𝓤 (date.answer ≡ Ok day.passed.0))
   day_of_then_date_of day date n e f = together 𝓤 (id⊢ 𝓤 _) (id⊢ 𝓤 _) (λ p q.
       q ∙ rw f (rules.day_then_date day.passed.0 n (sym p ∙ e)))
 
   pub date_of_then_day_of : (date : DateCall) (day : DayCall) (n : ℤ)
-      → date.passed.0 ≡ n → date.answer ≡ Dated.On day.passed.0
-      → ent 𝓤 (conj 𝓤 (date_told date) (day_told day)) (fact 𝓤 (day.answer ≡ Numbered.Day n))
+      → date.passed.0 ≡ n → date.answer ≡ Ok day.passed.0
+      → ent 𝓤 (conj 𝓤 (date_told date) (day_told day)) (fact 𝓤 (day.answer ≡ Ok n))
   date_of_then_day_of date day n e f = together 𝓤 (id⊢ 𝓤 _) (id⊢ 𝓤 _) (λ p q.
       q ∙ rules.date_then_day n day.passed.0 (ap date_of (sym e) ∙ sym p ∙ f))
 

@@ -1,6 +1,6 @@
 -- The round trips of the list file as C makes them: what the contracts of `turbelicus_list_count`,
 -- `turbelicus_list_star` and `turbelicus_list_write` tell together of calls one after the other.
-use Rattle.std.specs.Prelude.{◌≡◌, ℕ, ◌+◌, ◌*◌, ◌/◌, ◌<◌, ◌≤◌, length, get_or, ℤ, pos, nat_abs}
+use Rattle.std.specs.Prelude.{◌≡◌, ℕ, ◌+◌, ◌*◌, ◌/◌, ◌<◌, ◌≤◌, length, get_or, ℤ, pos, nat_abs, Result, Ok, Err}
 use Rattle.std.proofs.Math.Path.{ap}
 use Rattle.std.proofs.Common.{sym, ◌∙◌, arith}
 use mathlib.Core.List.{List, [], ◌∷◌, map, flat_map}
@@ -11,7 +11,6 @@ use prog.Memory.{Memory}
 use prog.Routine.{Routine}
 use types.Logic.{Logic}
 use contract.Monad.{Fun, conj, fact}
-use Rattle.rules.specs.declared.Listed.{Listed}
 use Rattle.rules.specs.Refusals.{given, refused}
 use Rattle.rules.specs.Answers.{listed_answer}
 use Rattle.rules.specs.Years.{up_from}
@@ -26,6 +25,7 @@ use Rattle.promises.specs.RoundTrips as rules
 use Rattle.module.specs.contracts.lists.turbelicus_list_count as turbelicus_list_count
 use Rattle.module.specs.contracts.lists.turbelicus_list_star as turbelicus_list_star
 use Rattle.module.specs.contracts.lists.turbelicus_list_write as turbelicus_list_write
+use Rattle.rules.specs.declared.Refusal.{Refusal}
 
 -- ---- the structs
 
@@ -33,11 +33,11 @@ use Rattle.module.specs.contracts.lists.turbelicus_list_write as turbelicus_list
 abbrev pub numbers_of : TurbelicusStarred → List ℤ
 numbers_of s = s.ra ∷ s.declination ∷ s.ra_motion ∷ s.declination_motion ∷ []
 
-written_is : (l : Listed) (a : TurbelicusWritten) → a ≡ written_out (listed_answer l) → a.refused ≡ pos 0
-    → l ≡ Listed.Count a.length
+written_is : (l : Result ℕ Refusal) (a : TurbelicusWritten) → a ≡ written_out (listed_answer l) → a.refused ≡ pos 0
+    → l ≡ Ok a.length
 unfolding written_out listed_answer given refused
-written_is (Listed.Count n) a e z = sym (ap (λ s. Listed.Count s.length) e)
-written_is (Listed.Refused r) a e z = absurd (omega (arith, ap nat_abs (sym z ∙ ap (λ s. s.refused) e), number_pos r))
+written_is (Ok n) a e z = sym (ap (λ s. Ok s.length) e)
+written_is (Err r) a e z = absurd (omega (arith, ap nat_abs (sym z ∙ ap (λ s. s.refused) e), number_pos r))
 
 module _ {M : Type 1} {𝓤 : Ura M} (𝓛 : Logic 𝓤) (mem : Memory → SProp 𝓤) (run : Routine → Fun 𝓤) where
   -- ---- calls
@@ -113,7 +113,7 @@ module _ {M : Type 1} {𝓤 : Ura M} (𝓛 : Logic 𝓤) (mem : Memory → SProp
       all_together 𝓤 (id⊢ 𝓤 _) (id⊢ 𝓤 _) (id⊢ 𝓤 _) (λ p q r.
       let room = writes.passed.1.0.now in
       let size = writes.answer.length in
-      let written : numbers_written numbers room ≡ Listed.Count size =
+      let written : numbers_written numbers room ≡ Ok size =
       ap (λ row. numbers_written row room) (sym asked.handed)
       ∙ written_is (numbers_written writes.passed.0.now room) writes.answer p.0 asked.accepted in
       let file : take size writes.exit.1.0.now ≡ take size (room_after_numbers numbers room) =

@@ -1,61 +1,38 @@
--- `refraction::lift` meets its contract: nought by each of the two tests, else by the tenths of the fields.
-use mathlib.Core.Path.{◌≡◌, ◌∙◌}
-use mir.Syntax.{w64}
-use mir.Val.{to_z, of_z}
-use mir.Facts.{to_z-of_z}
-use Rattle.words.specs.Fits.{held64}
-use Rattle.words.specs.Tests.{not_taken, not_left}
-use Rattle.rules.specs.Floats.{tenths}
+-- `refraction::lift` meets its contract: by the tenths of the fields where both have come, else nought.
+use Rattle.std.proofs.Common.{◌∙◌, to_z-of_z}
 use Rattle.rules.specs.Refraction.{lift}
 use Rattle.laws.specs.Weather.{pressure_small, temperature_small}
 use Rattle.laws.specs.Refraction.{record_air}
+use Rattle.words.specs.Fits.{held64}
 use Rattle.refraction.proofs.lift.Goals as goal
+use Rattle.refraction.proofs.lift.Goals.{else-w-via-then-w+else-w-2, else-w-via-else-w}
 
-pub returns-then-not-w : goal.returns-then-not-w
+pub tenths-requires : goal.tenths-requires
+tenths-requires c = pressure_small c.args.w.pressure c.requires.pressure
+
+pub tenths-requires-then-w-2 : goal.tenths-requires-then-w-2
+tenths-requires-then-w-2 c = temperature_small c.args.w.temperature c.requires.temperature
+
+pub lift_at-requires : goal.lift_at-requires
+lift_at-requires c =
+    let p = c.tenths in
+    let t = c.tenths-then-w-2 in
+    rw (held64 p.result p.type_inv ∙ p.ensures, held64 t.result t.type_inv ∙ t.ensures) (record_air c.args.w c.requires)
+
+pub returns-then-w-2 : goal.returns-then-w-2
 unfolding lift
-returns-then-not-w c = rw (not_taken c.args.w.has_pressure c.if-not-w.true)
-
-pub returns-then-not-w-2 : goal.returns-then-not-w-2
-unfolding lift
-returns-then-not-w-2 c =
-    let w = c.args.w in
-    rw (
-      not_left w.has_pressure c.if-not-w.false,
-      not_taken w.has_temperature c.if-not-w-2.true,
-    )
-
-pressure_is : (c : goal.After-tenths)
-    → to_z w64 (of_z w64 c.tenths.result) ≡ tenths c.args.w.pressure
-pressure_is c = held64 c.tenths.result c.tenths.type_inv ∙ c.tenths.ensures
-
-temperature_is : (c : goal.After-tenths-2)
-    → to_z w64 (of_z w64 c.tenths-2.result)
-    ≡ tenths c.args.w.temperature
-temperature_is c = held64 c.tenths-2.result c.tenths-2.type_inv ∙ c.tenths-2.ensures
+returns-then-w-2 c =
+    let p = c.tenths in
+    let t = c.tenths-then-w-2 in
+    held64 c.lift_at.result c.lift_at.type_inv
+    ∙ rw (to_z-of_z c.ranges.h, held64 p.result p.type_inv ∙ p.ensures, held64 t.result t.type_inv ∙ t.ensures)
+    at c.lift_at.ensures
+    ∙ rw (c.if-w.true, c.if-w-2.true)
 
 pub returns : goal.returns
 unfolding lift
 returns c =
-    let e = c.before.before.before in
-    let s = e.before.before.before.before in
-    held64 c.lift_at.result c.lift_at.type_inv
-    ∙ rw (to_z-of_z s.ranges.h, pressure_is c.before.before, temperature_is c.before) at c.lift_at.ensures
-    ∙ rw (
-      not_left s.args.w.has_pressure e.if-not-w.false,
-      not_left s.args.w.has_temperature e.if-not-w-2.false,
-    )
-
-pub tenths-requires : goal.tenths-requires
-tenths-requires c =
-    let s = c.before.before.before.before in
-    pressure_small s.args.w.pressure s.requires.pressure
-
-pub tenths-requires-2 : goal.tenths-requires-2
-tenths-requires-2 c =
-    let s = c.before.before.before.before.before in
-    temperature_small s.args.w.temperature s.requires.temperature
-
-pub lift_at-requires : goal.lift_at-requires
-lift_at-requires c =
-    let s = c.before.before.before.before.before.before in
-    rw (pressure_is c.before, temperature_is c) (record_air s.args.w s.requires)
+    elim c.else-w.branch [
+      | else-w-via-then-w+else-w-2 w ↦ rw (w.if-w.true, w.if-w-2.false)
+      | else-w-via-else-w w ↦ rw (w.if-w.false)
+    ]

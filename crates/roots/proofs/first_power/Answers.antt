@@ -6,24 +6,15 @@ use native.Mathlib.Omega.{arith}
 use lib.Count.{count_leading_zeros, leading_le}
 use lib.IntN.{pos, nat_abs}
 use lib.Pow.{pow_mono}
-use lib.Signed.{yes_non_neg, lt_z_yes, quot_z}
+use lib.Signed.{lt_z_yes, quot_z}
 use mir.Syntax.{w64}
 use mir.Val.{to_z, SFits}
 use mir.Facts.{to_z-of_z}
 use Rattle.rules.specs.ManualRoot.{binary_digits, trials, first_power}
 use Rattle.laws.specs.ManualRoot.{trials_le}
-use Rattle.words.specs.Fits.{size64_lt, fits64}
-use Rattle.words.specs.Holds.{Holds, bits, ◌+ʷ◌, ◌-ʷ◌, ◌/ʷ◌, lit, nat, add, add_ok, sub_nat, sub_nat_ok, div, div_ok}
+use Rattle.words.specs.Fits.{fits64}
+use Rattle.words.specs.Holds.{Holds, bits, ◌+ʷ◌, ◌-ʷ◌, ◌/ʷ◌, lit, nat, add, sub_nat, div}
 use Rattle.roots.proofs.first_power.Goals as goal
-
-abbrev number : goal.Start → ℕ
-number c = nat_abs c.args.n
-
-number_lt : (c : goal.Start) → number c < 2 ^ 64
-number_lt c = omega (arith, size64_lt c.args.n c.ranges.n c.requires)
-
-pub overflow_cast-word : goal.overflow_cast-word
-overflow_cast-word c = rw (to_z-of_z c.ranges.n) (yes_non_neg c.requires, record { fits = number_lt c })
 
 -- ---- leading zeros and binary digits of any word
 
@@ -57,29 +48,9 @@ shifted k m e h =
 power_holds : (m : ℕ) → Holds (1 * 2 ^ ((64 -ʷ count_leading_zeros 64 m +ʷ 1) /ʷ 2) % 2 ^ 64) (pos (2 ^ trials m)) (2 ^ 32)
 power_holds m = shifted ((64 -ʷ count_leading_zeros 64 m +ʷ 1) /ʷ 2) (trials m) (root_digits m) (trials_le m)
 
--- ---- the needs
-
-pub overflow_cast-digits : goal.overflow_cast-digits
-overflow_cast-digits c = zeros_fit _
-
-pub overflow_sub-digits : goal.overflow_sub-digits
-overflow_sub-digits c = sub_nat_ok (lit 64 tt) (zeros_hold _) (leading_le 64 _) tt
-
-pub overflow_add-root_digits : goal.overflow_add-root_digits
-overflow_add-root_digits c = add_ok (digits_hold _) (lit 1 tt) tt
-
-pub nonzero_div-root_digits : goal.nonzero_div-root_digits
-nonzero_div-root_digits c = div_ok (sum_holds _) (lit 2 tt) (lt_z_yes tt) tt
-
-pub overflow_shl-result : goal.overflow_shl-result
-overflow_shl-result c = shift_fits _
-
-pub nonzero_div-result : goal.nonzero_div-result
-nonzero_div-result c = div_ok (power_holds _) (lit _ tt) (lt_z_yes tt) tt
-
 pub returns : goal.returns
 unfolding first_power
 returns c =
     let word = ap nat_abs (to_z-of_z c.ranges.n) in
-    (div (power_holds (nat_abs (to_z w64 (bits c.args.n)))) (lit 2 tt) (lt_z_yes tt) tt).value
+    rw c.from-digits.ensures (div (power_holds (nat_abs (to_z w64 (bits c.args.n)))) (lit 2 tt) (lt_z_yes tt) tt).value
     ∙ ap (λ m. pos (2 ^ trials m / 2)) word

@@ -1,5 +1,5 @@
 -- `roots::root_from` meets its contract.
-use Rattle.std.proofs.Common.{◌≡◌, refl, sym, ap, ◌∙◌, ℕ, zero, suc, ◌+◌, ◌*◌, ◌/◌, ◌<◌, ◌≤◌, ◌^◌, Bool, true, false, cond, ℤ, pos, nat_abs, arith, ltb-true, ltb-false, w64, of_z, to_z, to_z-of_z}
+use Rattle.std.proofs.Common.{◌≡◌, refl, ap, ◌∙◌, ℕ, zero, suc, ◌+◌, ◌*◌, ◌/◌, ◌<◌, ◌≤◌, ◌^◌, Bool, true, false, cond, ℤ, pos, nat_abs, arith, ltb-true, ltb-false, w64, of_z, to_z, to_z-of_z}
 use native.Mathlib.Nat.{two-pow-succ}
 use lib.Dec.{leb}
 use lib.Pow.{pow_pos}
@@ -9,7 +9,7 @@ use Rattle.rules.specs.ManualRoot.{binary_digits}
 use Rattle.laws.specs.ManualRoot.{power_digits}
 use Rattle.words.specs.Fits.{held64}
 use Rattle.words.specs.Holds.{Holds, lit, div, div_ok}
-use Rattle.roots.specs.Trials.{Left, Begun, Trial}
+use Rattle.roots.specs.Trials.{Left, Begun}
 use Rattle.roots.proofs.root_from.Goals as goal
 
 -- ---- how many trials are left

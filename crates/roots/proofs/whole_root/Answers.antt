@@ -1,8 +1,7 @@
 -- `roots::whole_root` meets its contract: it begins with as many trials as the root has binary digits.
 use Prim.Native.Nat.{ℕ, ◌<◌, ◌≤◌, ◌^◌}
-use mathlib.Core.Path.{refl, ◌∙◌}
+use mathlib.Core.Path.{refl}
 use native.Mathlib.Omega.{arith}
-use borrow.Author.Rules.{rules}
 use lib.IntN.{nat_abs}
 use lib.Pow.{pow_mono}
 use mir.Facts.{to_z-of_z}
@@ -18,9 +17,6 @@ all_left n h =
     let le : 2 ^ trials n ≤ 2 ^ 32 = pow_mono (trials_le n) in
     record { is = refl; le = trials_le n; within = omega arith; makes = manual_root_lem n (omega arith) }
 
-pub first_power-requires : goal.first_power-requires
-first_power-requires c = search rules
-
 pub root_from-requires : goal.root_from-requires
 root_from-requires c =
     let b = c.before in
@@ -32,8 +28,3 @@ root_from-requires c =
       trials = trials (nat_abs b.args.n);
       left = all_left (nat_abs b.args.n) (size64_lt b.args.n b.ranges.n b.requires);
     })
-
-pub returns : goal.returns
-returns c =
-    held64 c.root_from.result c.root_from.type_inv
-    ∙ rw (to_z-of_z c.before.before.ranges.n) at c.root_from.ensures

@@ -1,18 +1,17 @@
 -- `rounding::rnd_short_quotient` meets its contract: rounding is odd, so the law of sizes gives both signs.
-use Prim.Native.Nat.{suc, ◌+◌, ◌/◌, ◌^◌}
+use Prim.Native.Nat.{suc, ◌+◌, ◌/◌}
 use mathlib.Core.Path.{◌≡◌, ap, ◌∙◌}
 use mathlib.Core.Bool.{true, false}
 use native.Mathlib.Omega.{arith}
 use lib.Dec.{ltb→lt}
 use lib.IntN.{ℤ, pos, negsuc, neg_ℤ, nat_abs, ◌+ℤ◌, ◌-ℤ◌}
-use lib.Signed.{quot_z, lt_z, lt_z_yes, ◌<ℤ◌}
+use lib.Signed.{quot_z, lt_z, ◌<ℤ◌}
 use Rattle.integers.specs.Difference.{lt_z_true, lt_z_false}
 use Rattle.integers.specs.Quotient.{quot_neg}
 use Rattle.integers.specs.Sign.{neg_add_neg}
-use Rattle.words.specs.Holds.{Holds, bits, ◌/ʷ◌, arg, lit, add, add_ok, sub, sub_ok, div, div_ok, div_lit}
+use Rattle.words.specs.Holds.{arg, add, sub, div, div_lit}
 use Rattle.rules.specs.Rounding.{rnd}
 use Rattle.laws.specs.Rounding.{rnd_pos}
-use Rattle.rounding.specs.Given.{most_dividend}
 use Rattle.rounding.proofs.Half.{rnd_size_by_half}
 use Rattle.rounding.proofs.rnd_short_quotient.Goals as goal
 
@@ -34,44 +33,20 @@ rnd_of_negative (negsuc n) (pos d) h t =
     ∙ ap (λ m. neg_ℤ (pos m)) (rnd_size_by_half (suc n) d (ltb→lt 0 d h.lt))
 rnd_of_negative a (negsuc d) h t = absurd h.lt
 
--- ---- what the word holds
-
-a_holds : (c : goal.Start) → Holds (bits c.args.a) c.args.a most_dividend
-a_holds c = arg c.args.a c.requires.a_bound tt
-
-b_holds : (c : goal.Start) → Holds (bits c.args.b) c.args.b (2 ^ 62)
-b_holds c = arg c.args.b c.requires.b_bound tt
-
-half_holds : (c : goal.Start) → Holds (bits c.args.b /ʷ 2) (quot_z c.args.b (pos 2)) (2 ^ 61)
-half_holds c = div_lit 2 (b_holds c) tt tt tt
-
-pub nonzero_div-half : goal.nonzero_div-half
-nonzero_div-half c = div_ok (b_holds c) (lit 2 tt) (lt_z_yes tt) tt
-
-pub overflow_sub-result : goal.overflow_sub-result
-overflow_sub-result c = sub_ok (a_holds c.before) (half_holds c.before) tt
-
-pub nonzero_div-result : goal.nonzero_div-result
-nonzero_div-result c =
-    let b = c.before in
-    div_ok (sub (a_holds b) (half_holds b) tt) (b_holds b) b.requires.pos_bound tt
-
-pub overflow_add-result : goal.overflow_add-result
-overflow_add-result c = add_ok (a_holds c.before) (half_holds c.before) tt
-
-pub nonzero_div-result-else-a-lt0 : goal.nonzero_div-result-else-a-lt0
-nonzero_div-result-else-a-lt0 c =
-    let b = c.before in
-    div_ok (add (a_holds b) (half_holds b) tt) (b_holds b) b.requires.pos_bound tt
+-- ---- the answer
 
 pub returns-then-a-lt0 : goal.returns-then-a-lt0
 returns-then-a-lt0 c =
-    let b = c.before in
-    (div (sub (a_holds b) (half_holds b) tt) (b_holds b) b.requires.pos_bound tt).value
-    ∙ rnd_of_negative b.args.a b.args.b b.requires.pos_bound (rw (a_holds b).value at c.if-a-lt0.true)
+    let a = arg c.args.a c.requires.a_bound tt in
+    let b = arg c.args.b c.requires.b_bound tt in
+    let half = div_lit 2 b tt tt tt in
+    (div (sub a half tt) b c.requires.pos_bound tt).value
+    ∙ rnd_of_negative c.args.a c.args.b c.requires.pos_bound (rw a.value at c.if-a-lt0.true)
 
 pub returns-else-a-lt0 : goal.returns-else-a-lt0
 returns-else-a-lt0 c =
-    let b = c.before in
-    (div (add (a_holds b) (half_holds b) tt) (b_holds b) b.requires.pos_bound tt).value
-    ∙ rnd_of_nonnegative b.args.a b.args.b b.requires.pos_bound (rw (a_holds b).value at c.if-a-lt0.false)
+    let a = arg c.args.a c.requires.a_bound tt in
+    let b = arg c.args.b c.requires.b_bound tt in
+    let half = div_lit 2 b tt tt tt in
+    (div (add a half tt) b c.requires.pos_bound tt).value
+    ∙ rnd_of_nonnegative c.args.a c.args.b c.requires.pos_bound (rw a.value at c.if-a-lt0.false)

@@ -1,30 +1,21 @@
 -- `sidereal::sidereal` meets its contract.
-use mathlib.Core.Path.{ap, ◌∙◌}
-use borrow.Author.Rules.{rules, sfits_of}
-use Rattle.rules.specs.declared.Angle.{Angle}
-use Rattle.rules.specs.Polynomials.{angle_at}
-use Rattle.rules.specs.Sidereal.{sidereal_at}
-use Rattle.polynomials.proofs.Tested.{Tested, tested, instant_refused_lem, instant_accepted, instant_in_range}
+use Rattle.std.specs.Prelude.{Ok}
+use Rattle.std.proofs.Common.{ap, ◌∙◌}
+use Rattle.rules.specs.Polynomials.{instant_refused, angle_at}
+use Rattle.rules.specs.Sidereal.{sidereal, sidereal_at}
+use Rattle.laws.specs.PassedUp.{passed_up}
+use Rattle.words.specs.Fits.{held64}
+use Rattle.polynomials.proofs.HandedOn.{still_refused, made}
 use Rattle.sidereal.proofs.sidereal.Goals as goal
-use Rattle.sidereal.proofs.sidereal.Lts as lts
-use Rattle.sidereal.proofs.sidereal.Reads as reads
-use Rattle.sidereal.proofs.sidereal.Tie as tie
 
-pub instant_refused-requires : goal.instant_refused-requires
-instant_refused-requires c = search rules
-
-test : (c : lts.After-instant_refused tie.the-claims reads.Pre reads.Post) → Tested c.args.t.0 c.instant_refused.result
-test c = tested (sfits_of c.struct_told-1.given.0.1) c.instant_refused.ensures
-
-pub returns-then-instant_refused : goal.returns-then-instant_refused
+pub returns-in_err-in_range : goal.returns-in_err-in_range
 unfolding sidereal_at angle_at
-returns-then-instant_refused c = rw (instant_refused_lem (test c.before) c.if-instant_refused.true)
-
-pub sidereal_of-requires : goal.sidereal_of-requires
-sidereal_of-requires c = instant_in_range (test c.before.before) c.if-instant_refused.false
+returns-in_err-in_range c =
+    let t = c.args.t in
+    passed_up c.from_residual.result c.in_err-in_range.field-0.0 c.from_residual.ensures.1
+    ∙ still_refused (instant_refused t.0) t (sidereal t) c.in_err-in_range.ensures
 
 pub returns : goal.returns
 unfolding sidereal_at angle_at
 returns c =
-    rw (instant_accepted (test c.before.before) c.if-instant_refused.false)
-    (ap Angle.Of (search rules ∙ c.sidereal_of.ensures))
+    ap Ok (held64 c.sidereal_of.result c.sidereal_of.type_inv ∙ c.sidereal_of.ensures) ∙ made sidereal (instant_refused c.args.t.0) c.args.t c.in_ok-in_range.ensures

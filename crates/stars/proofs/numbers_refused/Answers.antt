@@ -3,26 +3,14 @@ use mathlib.Core.Path.{◌≡◌, sym, ap, ◌∙◌}
 use mathlib.Core.Bool.{true, not}
 use Prim.Native.Nat.{◌-◌}
 use lib.IntN.{pos}
-use borrow.Author.Rules.{rules}
 use mir.Facts.{to_z-of_z}
 use Rattle.rules.specs.Units.{circle, quarter, between, within}
 use Rattle.rules.specs.Stars.{most_motion, star_refused}
 use Rattle.stars.proofs.numbers_refused.Goals as goal
+use Rattle.stars.proofs.numbers_refused.Goals.{Else-not-is_between, Else-not-is_between-2, Else-not-is_between-3}
 use Rattle.stars.proofs.numbers_refused.Lts as lts
 use Rattle.stars.proofs.numbers_refused.Reads as reads
 use Rattle.stars.proofs.numbers_refused.Tie as tie
-
-pub is_between-requires : goal.is_between-requires
-is_between-requires c = search rules
-
-pub is_between-requires-2 : goal.is_between-requires-2
-is_between-requires-2 c = search rules
-
-pub is_between-requires-3 : goal.is_between-requires-3
-is_between-requires-3 c = search rules
-
-pub is_between-requires-4 : goal.is_between-requires-4
-is_between-requires-4 c = search rules
 
 -- ---- right ascension
 
@@ -36,7 +24,7 @@ returns-then-not-is_between c =
     let out = sym (ra_tested c.before) ∙ c.if-not-is_between.true in
     simp out
 
-ra_in : (c : goal.Else-not-is_between) → between (pos 0) (pos (circle - 1)) c.before.before.args.ra ≡ true
+ra_in : (c : Else-not-is_between) → between (pos 0) (pos (circle - 1)) c.before.before.args.ra ≡ true
 ra_in c = sym (ra_tested c.before) ∙ c.if-not-is_between.false
 
 -- ---- declination
@@ -52,7 +40,7 @@ returns-then-not-is_between-2 c =
     let out = sym (declination_tested c.before) ∙ c.if-not-is_between-2.true in
     simp (ra_in c.before.before, out)
 
-declination_in : (c : goal.Else-not-is_between-2) → within quarter c.before.before.before.before.args.declination ≡ true
+declination_in : (c : Else-not-is_between-2) → within quarter c.before.before.before.before.args.declination ≡ true
 declination_in c = sym (declination_tested c.before) ∙ c.if-not-is_between-2.false
 
 -- ---- the motions
@@ -69,7 +57,7 @@ returns-then-not-is_between-3 c =
     let out = sym (ra_motion_tested c.before) ∙ c.if-not-is_between-3.true in
     simp (ra_in c.before.before.before.before, declination_in c.before.before, out)
 
-ra_motion_in : (c : goal.Else-not-is_between-3)
+ra_motion_in : (c : Else-not-is_between-3)
     → within most_motion c.before.before.before.before.before.before.args.ra_motion ≡ true
 ra_motion_in c = sym (ra_motion_tested c.before) ∙ c.if-not-is_between-3.false
 

@@ -1,20 +1,14 @@
 -- `stars::site_refused` meets its contract.
 use mathlib.Core.Path.{◌≡◌, sym, ap, ◌∙◌}
 use mathlib.Core.Bool.{not}
-use borrow.Author.Rules.{rules}
 use Rattle.words.specs.Fits.{held64}
 use Rattle.rules.specs.Units.{half, quarter, within}
 use Rattle.rules.specs.Night.{site_refused}
 use Rattle.stars.proofs.site_refused.Goals as goal
+use Rattle.stars.proofs.site_refused.Goals.{After-is_between-2}
 use Rattle.stars.proofs.site_refused.Lts as lts
 use Rattle.stars.proofs.site_refused.Reads as reads
 use Rattle.stars.proofs.site_refused.Tie as tie
-
-pub overflow_sub-is_between : goal.overflow_sub-is_between
-overflow_sub-is_between c = search rules
-
-pub is_between-requires : goal.is_between-requires
-is_between-requires c = search rules
 
 latitude_tested : (c : lts.After-is_between tie.the-claims reads.Pre reads.Post)
     → c.is_between.result ≡ within quarter c.before.before.args.site.latitude
@@ -27,13 +21,7 @@ pub returns-then-not-is_between : goal.returns-then-not-is_between
 unfolding site_refused
 returns-then-not-is_between c = let out = sym (latitude_tested c.before) ∙ c.if-not-is_between.true in simp out
 
-pub overflow_sub-is_between-2 : goal.overflow_sub-is_between-2
-overflow_sub-is_between-2 c = search rules
-
-pub is_between-requires-2 : goal.is_between-requires-2
-is_between-requires-2 c = search rules
-
-longitude_tested : (c : goal.After-is_between-2)
+longitude_tested : (c : After-is_between-2)
     → c.is_between-2.result ≡ within half c.before.before.before.before.before.args.site.longitude
 unfolding within
 longitude_tested c =

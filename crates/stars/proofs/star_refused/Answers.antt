@@ -1,31 +1,17 @@
 -- `stars::star_refused` meets its contract.
-use mathlib.Core.Path.{◌∙◌}
-use borrow.Author.Rules.{rules, sfits_of}
-use Rattle.words.specs.Fits.{held64}
-use Rattle.words.specs.Holds.{widened, widened_ok}
+use Rattle.std.proofs.Common.{◌∙◌, rules, SFits, to_z-of_z}
+use Rattle.std.specs.Int.{w64}
+use Rattle.words.specs.Holds.{from_i32}
 use Rattle.rules.specs.Stars.{star_refused}
 use Rattle.stars.specs.Numbers.{star_of}
 use Rattle.stars.proofs.star_refused.Goals as goal
 
 pub returns : goal.returns
 returns c =
-    let s = c.before.before.before.before.before.before.before.args.star in
-    let given = c.before.struct_told-4-1.given in
-    let ra = held64 s.ra given.0.1 in
-    let declination = held64 s.declination given.1.0.1 in
-    let ra_motion = (widened s.ra_motion (sfits_of given.1.1.0.1)).value in
-    let declination_motion = (widened s.declination_motion (sfits_of given.1.1.1.0.1)).value in
+    let s = c.args.star in
+    let ra : SFits w64 s.ra = search rules in
+    let declination : SFits w64 s.declination = search rules in
+    let ra_motion = from_i32 s.ra_motion _ (search rules) c.from.ensures in
+    let declination_motion = from_i32 s.declination_motion _ (search rules) c.from-2.ensures in
     c.numbers_refused.ensures
-    ∙ (λ i. star_refused (star_of (ra i) (declination i) (ra_motion i) (declination_motion i)))
-
-pub overflow_cast-star : goal.overflow_cast-star
-overflow_cast-star c =
-    widened_ok c.before.before.args.star.ra_motion (sfits_of c.struct_told-1.given.1.1.0.1)
-
-pub overflow_cast-star-2 : goal.overflow_cast-star-2
-overflow_cast-star-2 c =
-    widened_ok c.before.before.before.before.args.star.declination_motion
-    (sfits_of c.struct_told-2-1.given.1.1.1.0.1)
-
-pub numbers_refused-requires : goal.numbers_refused-requires
-numbers_refused-requires c = search rules
+    ∙ (λ i. star_refused (star_of (to_z-of_z ra i) (to_z-of_z declination i) (ra_motion.value i) (declination_motion.value i)))

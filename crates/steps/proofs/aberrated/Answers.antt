@@ -9,20 +9,19 @@ use Rattle.steps.proofs.aberrated.Goals as goal
 
 pub sum-requires : goal.sum-requires
 sum-requires c =
-    let v = accepted_parts c.args.v c.requires.direction in
-    let a = c.requires.night.aberration in record { parts_le = record { x = omega (arith, v.x); y = omega (arith, v.y); z = omega (arith, v.z) }; parts_le_2 = record { x = omega (arith, a.x); y = omega (arith, a.y); z = omega (arith, a.z) } }
+    let v = accepted_parts c.args.v c.requires in
+    let a = c.n.invariant.aberration in record { direction_fits = record { x = omega (arith, v.x); y = omega (arith, v.y); z = omega (arith, v.z) }; aberration_fits = record { x = omega (arith, a.x); y = omega (arith, a.y); z = omega (arith, a.z) } }
 
 pub brought-requires : goal.brought-requires
 brought-requires c =
-    let start = c.before.before in
-    let v = start.args.v in
-    let a = start.args.n.aberration in
-    let small = start.requires.night.aberration in
+    let v = c.args.v in
+    let a = c.n.inside.night.aberration in
+    let small = c.n.invariant.aberration in
     rw c.sum.ensures (record {
-      fits = omega (arith, plus_fits v a start.requires.direction small);
-      length_pos = omega (arith, plus_root_ge v a start.requires.direction small);
+      fits = omega (arith, plus_fits v a c.requires small);
+      length_pos = omega (arith, plus_root_ge v a c.requires small);
     })
 
 pub returns : goal.returns
 unfolding aberrated
-returns c = c.brought.ensures ∙ ap to_length c.sum.ensures
+returns c = rw (← c.n.view_is) (c.brought.ensures ∙ ap to_length c.sum.ensures)

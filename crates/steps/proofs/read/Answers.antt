@@ -1,17 +1,17 @@
 -- `steps::read` meets its contract.
 use Prim.Native.Nat.{◌+◌}
 use native.Mathlib.Omega.{arith}
-use borrow.Author.Rules.{rules}
 use mir.Facts.{to_z-of_z}
 use Rattle.words.specs.Fits.{fits32}
 use Rattle.words.specs.Holds.{Holds, bits, arg}
 use Rattle.rules.specs.Units.{unit}
 use Rattle.steps.proofs.read.Goals as goal
+use Rattle.steps.proofs.read.Goals.{Start}
 
-h_holds : (c : goal.Start) → Holds (bits c.args.h) c.args.h (unit + 1)
+h_holds : (c : Start) → Holds (bits c.args.h) c.args.h (unit + 1)
 h_holds c = arg c.args.h c.requires.h_le tt
 
-v_holds : (c : goal.Start) → Holds (bits c.args.v) c.args.v (unit + 1)
+v_holds : (c : Start) → Holds (bits c.args.v) c.args.v (unit + 1)
 v_holds c = arg c.args.v c.requires.v_le tt
 
 pub overflow_cast-h : goal.overflow_cast-h
@@ -19,9 +19,6 @@ overflow_cast-h c = rw (h_holds c).value (fits32 c.args.h (omega (arith, c.requi
 
 pub overflow_cast-v : goal.overflow_cast-v
 overflow_cast-v c = rw (v_holds c).value (fits32 c.args.v (omega (arith, c.requires.v_le)))
-
-pub reading-requires : goal.reading-requires
-reading-requires c = search rules
 
 pub returns : goal.returns
 returns c =

@@ -1,7 +1,6 @@
 -- `steps::readings` meets its contract.
 use mathlib.Core.Path.{◌∙◌}
 use Prim.Native.Nat.{◌+◌}
-use borrow.Author.Rules.{rules}
 use Rattle.words.specs.Fits.{held64}
 use Rattle.words.specs.Holds.{Holds, bits, arg, negate, negate_ok}
 use Rattle.rules.specs.declared.Direction.{Direction}
@@ -28,9 +27,9 @@ returns c =
     let second = c.before.before.before.before.before in
     let third = c.before in
     rw (
-      rw ((x_holds v start.requires.accepted).value, (y_holds v start.requires.accepted).value) at first.read.ensures,
+      rw ((x_holds v start.requires.apparent_accepted).value, (y_holds v start.requires.apparent_accepted).value) at first.read.ensures,
       held64 second.height.result second.height.type_inv ∙ second.height.ensures,
-      rw ((negate (x_holds w start.requires.accepted_2) tt).value, (y_holds w start.requires.accepted_2).value)
+      rw ((negate (x_holds w start.requires.overhead_accepted) tt).value, (y_holds w start.requires.overhead_accepted).value)
           at third.read-2.ensures,
       held64 c.height-2.result c.height-2.type_inv ∙ c.height-2.ensures,
     )
@@ -38,24 +37,18 @@ returns c =
 pub read-requires : goal.read-requires
 read-requires c =
     let start = c.before.before in
-    let x = x_holds start.args.v start.requires.accepted in
-    let y = y_holds start.args.v start.requires.accepted in
+    let x = x_holds start.args.v start.requires.apparent_accepted in
+    let y = y_holds start.args.v start.requires.apparent_accepted in
     rw (x.value, y.value) (record { h_le = x.size; v_le = y.size })
-
-pub height-requires : goal.height-requires
-height-requires c = search rules
 
 pub overflow_sub-w : goal.overflow_sub-w
 overflow_sub-w c =
     let start = c.before.before.before.before.before.before in
-    negate_ok (x_holds start.args.w start.requires.accepted_2) tt
+    negate_ok (x_holds start.args.w start.requires.overhead_accepted) tt
 
 pub read-requires-2 : goal.read-requires-2
 read-requires-2 c =
     let start = c.before.before.before.before.before.before.before in
-    let x = negate (x_holds start.args.w start.requires.accepted_2) tt in
-    let y = y_holds start.args.w start.requires.accepted_2 in
+    let x = negate (x_holds start.args.w start.requires.overhead_accepted) tt in
+    let y = y_holds start.args.w start.requires.overhead_accepted in
     rw (x.value, y.value) (record { h_le = x.size; v_le = y.size })
-
-pub height-requires-2 : goal.height-requires-2
-height-requires-2 c = search rules

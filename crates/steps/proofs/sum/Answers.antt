@@ -16,22 +16,22 @@ returns c =
     let v = start.args.v in
     let a = start.args.a in
     rw (
-      (sum_holds v.x a.x start.requires.parts_le.x start.requires.parts_le_2.x).value,
-      (sum_holds v.y a.y start.requires.parts_le.y start.requires.parts_le_2.y).value,
-      (sum_holds v.z a.z start.requires.parts_le.z start.requires.parts_le_2.z).value,
+      (sum_holds v.x a.x start.requires.direction_fits.x start.requires.aberration_fits.x).value,
+      (sum_holds v.y a.y start.requires.direction_fits.y start.requires.aberration_fits.y).value,
+      (sum_holds v.z a.z start.requires.direction_fits.z start.requires.aberration_fits.z).value,
     )
 
 pub overflow_add-result : goal.overflow_add-result
 overflow_add-result c =
     let start = c.before.before.before.before in
-    add_ok (part_holds start.args.v.x start.requires.parts_le.x) (part_holds start.args.a.x start.requires.parts_le_2.x) tt
+    add_ok (part_holds start.args.v.x start.requires.direction_fits.x) (part_holds start.args.a.x start.requires.aberration_fits.x) tt
 
 pub overflow_add-result-2 : goal.overflow_add-result-2
 overflow_add-result-2 c =
     let start = c.before.before.before.before.before.before.before.before in
-    add_ok (part_holds start.args.v.y start.requires.parts_le.y) (part_holds start.args.a.y start.requires.parts_le_2.y) tt
+    add_ok (part_holds start.args.v.y start.requires.direction_fits.y) (part_holds start.args.a.y start.requires.aberration_fits.y) tt
 
 pub overflow_add-result-3 : goal.overflow_add-result-3
 overflow_add-result-3 c =
     let start = c.before.before.before.before.before.before.before.before.before.before.before.before in
-    add_ok (part_holds start.args.v.z start.requires.parts_le.z) (part_holds start.args.a.z start.requires.parts_le_2.z) tt
+    add_ok (part_holds start.args.v.z start.requires.direction_fits.z) (part_holds start.args.a.z start.requires.aberration_fits.z) tt

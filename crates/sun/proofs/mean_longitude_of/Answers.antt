@@ -1,21 +1,10 @@
 -- `sun::mean_longitude_of` meets its contract.
-use mathlib.Core.Path.{◌≡◌, ◌∙◌}
-use borrow.Author.Rules.{rules}
-use mir.Syntax.{w64}
-use mir.Val.{to_z, of_z}
+use Rattle.std.proofs.Common.{◌∙◌, rules}
 use Rattle.rules.specs.Sun.{mean_longitude}
 use Rattle.polynomials.proofs.Held.{instant_held}
 use Rattle.sun.proofs.mean_longitude_of.Goals as goal
-use Rattle.sun.proofs.mean_longitude_of.Lts as lts
-use Rattle.sun.proofs.mean_longitude_of.Tie as tie
-use Rattle.sun.proofs.mean_longitude_of.Reads as reads
-
-t_held : (c : lts.Start tie.the-claims reads.Pre reads.Post) → to_z w64 (of_z w64 c.args.t.0) ≡ c.args.t.0
-t_held c = instant_held c.args.t.0 c.requires
-
-pub quadratic-requires : goal.quadratic-requires
-quadratic-requires c = search rules
 
 pub returns : goal.returns
 unfolding mean_longitude
-returns c = search rules ∙ simp t_held at c.quadratic.ensures
+returns c =
+    rw (← c.t.view_is) (search rules ∙ rw (instant_held c.t.inside.at.0 c.t.invariant) at c.quadratic.ensures)

@@ -1,17 +1,17 @@
 -- `time_of_day::instants_at` meets its contract.
 use Prim.Native.Nat.{ℕ, ◌+◌, ◌*◌}
 use lib.IntN.{ℤ, pos, ◌+ℤ◌, ◌*ℤ◌}
-use borrow.Author.Rules.{rules}
 use Rattle.words.specs.Holds.{Holds, bits, ◌+ʷ◌, ◌-ʷ◌, ◌*ʷ◌, lit, got, arg, add, add_ok, mul, mul_ok, sub}
 use Rattle.rules.specs.Dates.{tai_minus_utc}
 use Rattle.laws.specs.Seconds.{tai_le}
 use Rattle.laws.specs.OfNumbers.{utc_at}
 use Rattle.time_of_day.proofs.instants_at.Goals as goal
+use Rattle.time_of_day.proofs.instants_at.Goals.{After-tai_minus_utc, After-utc_ms-utc, Start}
 
 abbrev most : ℕ
 most = 36524 * 86400000 + 86400999 + 43200000
 
-module _ (c : goal.Start) where
+module _ (c : Start) where
   day : Holds (bits c.args.day) c.args.day 36524
   day = arg c.args.day c.requires.day_le tt
 
@@ -25,13 +25,13 @@ module _ (c : goal.Start) where
       most
   sum = sub (add (mul day (lit 86400000 tt) tt) ms tt) (lit 43200000 tt) tt
 
-utc : (c : goal.After-utc_ms-utc) → Holds (bits c.utc_ms-utc.result) (utc_at c.before.args.day c.before.args.ms)
+utc : (c : After-utc_ms-utc) → Holds (bits c.utc_ms-utc.result) (utc_at c.before.args.day c.before.args.ms)
     most
 utc c =
     let s = c.before in
     got (rw ((day s).value, (ms s).value) at c.utc_ms-utc.ensures) (sum s).size tt
 
-module _ (c : goal.After-tai_minus_utc) where
+module _ (c : After-tai_minus_utc) where
   abbrev n : ℤ
   n = c.before.before.args.day
 
@@ -52,12 +52,6 @@ returns c = rw (
       ).value,
 )
 
-pub utc_ms-utc-requires : goal.utc_ms-utc-requires
-utc_ms-utc-requires c = rw ((day c).value, (ms c).value) (c.requires.day_le, c.requires.ms_le)
-
-pub tai_minus_utc-requires : goal.tai_minus_utc-requires
-tai_minus_utc-requires c = search rules
-
 pub overflow_mul-tt : goal.overflow_mul-tt
 overflow_mul-tt c = mul_ok (lit 1000 tt) (tai c) tt
 
@@ -66,6 +60,3 @@ overflow_add-tt c = add_ok (lit 32184 tt) (tai_ms c) tt
 
 pub overflow_add-tt-2 : goal.overflow_add-tt-2
 overflow_add-tt-2 c = add_ok (utc c.before) (added c) tt
-
-pub overflow_add-result : goal.overflow_add-result
-overflow_add-result c = add_ok (utc c.before) (ut1_minus_utc c.before.before) tt

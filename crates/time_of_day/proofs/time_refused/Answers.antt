@@ -1,93 +1,82 @@
--- `time_of_day::time_refused` meets its contract.
-use mathlib.Core.Path.{◌≡◌, sym, ◌∙◌}
-use mathlib.Core.Bool.{Bool, true, false}
-use lib.IntN.{pos}
-use mir.Facts.{to_z-of_z}
-use borrow.Author.Rules.{rules}
-use borrow.Author.Tests.{not-true, not-false}
-use Rattle.words.specs.Holds.{Holds, bits, got}
+-- `time_of_day::time_refused` meets its contract: each test is one more that the rule joins by `&&`.
+use Rattle.std.specs.Prelude.{◌≡◌, refl, Bool, true, false, not, ◌&&◌, ℤ, pos}
+use Rattle.std.proofs.Common.{sym, ap, ◌∙◌, SFits, of_z, to_z, to_z-of_z}
+use Rattle.std.specs.Int.{w64}
+use Rattle.words.specs.Fits.{held64}
 use Rattle.rules.specs.Units.{between}
 use Rattle.rules.specs.declared.Time.{Time}
 use Rattle.rules.specs.Dates.{last_second, time_refused}
-use Rattle.laws.specs.TimeOfDay.{last_second_le}
+use Rattle.laws.specs.Ranges.{true_not_false}
 use Rattle.laws.specs.OfNumbers.{time_of_parts}
 use Rattle.time_of_day.proofs.time_refused.Goals as goal
-use Rattle.time_of_day.proofs.time_refused.Lts as lts
-use Rattle.time_of_day.proofs.time_refused.Reads as reads
-use Rattle.time_of_day.proofs.time_refused.Tie as tie
+use Rattle.time_of_day.proofs.time_refused.Goals.{Joined-not-is_between, Joined-not-is_between-2}
+use Rattle.time_of_day.proofs.time_refused.Goals.{then-not-is_between, else-not-is_between}
+use Rattle.time_of_day.proofs.time_refused.Goals.{then-not-is_between-2, else-not-is_between-2}
 
-pub is_between-requires : goal.is_between-requires
-is_between-requires c = search rules
+-- ---- one test more
 
-hour_test : (c : lts.After-is_between tie.the-claims reads.Pre reads.Post) (b : Bool) → c.is_between.result ≡ b
-    → between (pos 0) (pos 23) c.before.args.hour ≡ b
-hour_test c b e = sym (rw (to_z-of_z c.before.ranges.hour) at c.is_between.ensures) ∙ e
+refused : (a b : Bool) → not a ≡ true → not (a && b) ≡ true
+refused true b e = true_not_false (sym e)
+refused false b e = refl
 
-pub returns-then-not-is_between : goal.returns-then-not-is_between
-unfolding time_refused
-returns-then-not-is_between c = rw (hour_test c.before false c.if-not-is_between.true)
+passed : (a b : Bool) → not a ≡ false → not (a && b) ≡ not b
+passed true b e = refl
+passed false b e = true_not_false e
 
-hour_is : (c : goal.Else-not-is_between) → between (pos 0) (pos 23) c.before.before.args.hour ≡ true
-hour_is c = hour_test c.before true c.if-not-is_between.false
+-- what a test tells of the number that it was given
+told : (low high z : ℤ) (b : Bool) → SFits w64 z → b ≡ between low high (to_z w64 (of_z w64 z)) → between low high z ≡ b
+told low high z b f e = sym (rw (to_z-of_z f) at e)
 
-pub is_between-requires-2 : goal.is_between-requires-2
-is_between-requires-2 c = search rules
+-- ---- hour and minute, and second
 
-minute_test : (c : lts.After-is_between2 tie.the-claims reads.Pre reads.Post) (b : Bool) → c.is_between-2.result ≡ b
-    → between (pos 0) (pos 59) c.before.before.before.args.minute ≡ b
-minute_test c b e = sym (rw (to_z-of_z c.before.before.before.ranges.minute) at c.is_between-2.ensures) ∙ e
+abbrev of_clock : Time → Bool
+of_clock t = between (pos 0) (pos 23) t.hour && between (pos 0) (pos 59) t.minute
 
-pub returns-then-not-is_between-2 : goal.returns-then-not-is_between-2
-unfolding time_refused
-returns-then-not-is_between-2 c = rw (hour_is c.before.before, minute_test c.before false c.if-not-is_between-2.true)
+abbrev of_second : ℤ → Time → Bool
+of_second n t = between (pos 0) (pos (last_second n t)) t.second
 
-minute_is : (c : goal.Else-not-is_between-2) → between (pos 0) (pos 59) c.before.before.before.before.args.minute ≡ true
-minute_is c = minute_test c.before true c.if-not-is_between-2.false
+clock : (c : Joined-not-is_between)
+    → c.if-not-is_between.value ≡ not (of_clock (time_of_parts c.args.hour c.args.minute c.args.second c.args.ms))
+clock c = elim c.if-not-is_between.branch [
+  | then-not-is_between w ↦
+      w.value-is
+      ∙ rw (w.if-not-is_between.true, told _ _ _ _ c.ranges.hour c.is_between.ensures ∙ w.if-not-is_between.true)
+  | else-not-is_between w ↦
+      w.value-is
+      ∙ rw (
+        told _ _ _ _ c.ranges.hour c.is_between.ensures ∙ w.if-not-is_between.false,
+        told _ _ _ _ c.ranges.minute w.is_between-else-not-is_between.ensures,
+      )
+]
 
-pub last_second-requires : goal.last_second-requires
-last_second-requires c = search rules
-
-abbrev time : goal.Start → Time
-time s = time_of_parts s.args.hour s.args.minute s.args.second s.args.ms
-
-last : (c : goal.After-last_second)
-    → let s = c.before.before.before.before.before in
-    Holds (bits c.last_second.result) (pos (last_second s.args.day (time s))) 60
+second : (c : Joined-not-is_between-2)
+    → let t = time_of_parts c.args.hour c.args.minute c.args.second c.args.ms in
+    c.if-not-is_between-2.value ≡ not (of_clock t && of_second c.args.day t)
 unfolding last_second
-last c =
-    let s = c.before.before.before.before.before in
-    got (rw (to_z-of_z s.ranges.day, to_z-of_z s.ranges.hour, to_z-of_z s.ranges.minute) at c.last_second.ensures)
-    (last_second_le s.args.day (time s)) tt
-
-pub is_between-requires-3 : goal.is_between-requires-3
-is_between-requires-3 c = search rules
-
-second_test : (c : lts.After-is_between3 tie.the-claims reads.Pre reads.Post) (b : Bool) → c.is_between-3.result ≡ b
-    → let s = c.before.before.before.before.before.before in
-    between (pos 0) (pos (last_second s.args.day (time s))) s.args.second ≡ b
-second_test c b e =
-    let s = c.before.before.before.before.before.before in
-    sym (rw ((last c.before).value, to_z-of_z s.ranges.second) at c.is_between-3.ensures) ∙ e
+second c =
+    let t = time_of_parts c.args.hour c.args.minute c.args.second c.args.ms in
+    let before = clock c.before in
+    elim c.if-not-is_between-2.branch [
+      | then-not-is_between-2 w ↦
+          w.value-is ∙ w.if-not-is_between-2.true
+          ∙ sym (refused (of_clock t) (of_second c.args.day t) (sym before ∙ w.if-not-is_between-2.true))
+      | else-not-is_between-2 w ↦
+          let last = rw (to_z-of_z c.ranges.day, to_z-of_z c.ranges.hour, to_z-of_z c.ranges.minute) at
+          w.last_second.ensures in
+          let test = rw (held64 w.last_second.result w.last_second.type_inv ∙ last) at
+          w.is_between-else-not-is_between-2.ensures in
+          w.value-is
+          ∙ ap not (sym (told _ _ _ _ c.ranges.second test))
+          ∙ sym (passed (of_clock t) (of_second c.args.day t) (sym before ∙ w.if-not-is_between-2.false))
+    ]
 
 pub returns-then-not-is_between-3 : goal.returns-then-not-is_between-3
 unfolding time_refused
 returns-then-not-is_between-3 c =
-    rw (
-      hour_is c.before.before.before.before.before,
-      minute_is c.before.before.before,
-      second_test c.before false c.if-not-is_between-3.true,
-    )
+    c.if-not-is_between-3.true ∙ sym (refused _ _ (sym (second c.before) ∙ c.if-not-is_between-3.true))
 
-pub is_between-requires-4 : goal.is_between-requires-4
-is_between-requires-4 c = search rules
-
-pub returns : goal.returns
+pub returns-else-not-is_between-3 : goal.returns-else-not-is_between-3
 unfolding time_refused
-returns c =
-    let s = c.before.before.before.before.before.before.before.before in
-    rw (
-      hour_is c.before.before.before.before.before.before,
-      minute_is c.before.before.before.before,
-      second_test c.before.before true c.before.if-not-is_between-3.false,
-      rw (to_z-of_z s.ranges.ms) at c.is_between-4.ensures,
-    )
+returns-else-not-is_between-3 c =
+    ap not (sym (told _ _ _ _ c.ranges.ms c.is_between-else-not-is_between-3.ensures))
+    ∙ sym (passed _ _ (sym (second c.before.before) ∙ c.if-not-is_between-3.false))

@@ -1,15 +1,14 @@
 -- `turning::is_turn` meets its contract.
 use mathlib.Core.Path.{◌≡◌, refl, sym, ◌∙◌}
 use mathlib.Core.Bool.{Bool, true, false, not}
-use borrow.Author.Rules.{rules}
 use lib.Signed.{lt_z}
 use mir.Syntax.{w64}
 use mir.Val.{to_z, of_z}
 use mir.Facts.{to_z-of_z}
 use Rattle.rules.specs.Units.{circle, +◌, −◌, between}
 use Rattle.rules.specs.Turning.{turn_refused}
-use Rattle.words.specs.Tests.{not_taken, not_left}
 use Rattle.turning.proofs.is_turn.Goals as goal
+use Rattle.turning.proofs.is_turn.Goals.{Else-not-is_between}
 use Rattle.turning.proofs.is_turn.Lts as lts
 use Rattle.turning.proofs.is_turn.Tie as tie
 use Rattle.turning.proofs.is_turn.Reads as reads
@@ -21,18 +20,12 @@ twice_not false = refl
 tested : (c : lts.After-is_between tie.the-claims reads.Pre reads.Post) → c.is_between.result ≡ between (+ 1) (+ 3) c.args.axis
 tested c = rw (to_z-of_z c.ranges.axis) at c.is_between.ensures
 
-is_axis : (c : goal.Else-not-is_between) → between (+ 1) (+ 3) c.args.axis ≡ true
+is_axis : (c : Else-not-is_between) → between (+ 1) (+ 3) c.args.axis ≡ true
 is_axis c = sym (tested c.before) ∙ c.if-not-is_between.false
-
-pub is_between-requires : goal.is_between-requires
-is_between-requires c = search rules
 
 pub returns-then-not-is_between : goal.returns-then-not-is_between
 unfolding turn_refused
 returns-then-not-is_between c = let out = sym (tested c.before) ∙ c.if-not-is_between.true in rw out
-
-pub overflow_sub-t-6 : goal.overflow_sub-t-6
-overflow_sub-t-6 c = search rules
 
 pub returns-then-angle : goal.returns-then-angle
 unfolding turn_refused

@@ -3,15 +3,15 @@ use mathlib.Core.Path.{refl, sym, ap, ◌∙◌}
 use Prim.Native.Nat.{ℕ, ◌-◌, ◌≤◌}
 use native.Mathlib.Omega.{arith}
 use lib.IntN.{pos}
-use borrow.Author.Rules.{rules}
 use Rattle.words.specs.Holds.{Holds, bits, ◌+ʷ◌, ◌-ʷ◌, lit, got, arg, add, add_ok, sub_nat, sub_ok}
 use Rattle.rules.specs.Utc.{days_of_span, time_of_ms, utc_at}
 use Rattle.laws.specs.Days.{ms_before, ms_before_grows, ms_before_end, ms_before_after, ms_on_le}
 use Rattle.laws.specs.Stretch.{count_of, counts, count_is, stretch_le}
 use Rattle.laws.specs.Utc.{OfTt, of_tt}
 use Rattle.utc.proofs.utc_at.Goals as goal
+use Rattle.utc.proofs.utc_at.Goals.{After-days_of_span-days, After-ms_before, Start}
 
-module _ (c : goal.Start) where
+module _ (c : Start) where
   abbrev n : ℕ
   n = days_of_span c.args.tt
 
@@ -33,13 +33,13 @@ module _ (c : goal.Start) where
   rest_le : j - ms_before n ≤ 86400999
   rest_le = omega (arith, known.day.to, ms_before_after n, ms_on_le n)
 
-days : (c : goal.After-days_of_span-days) → Holds (bits c.days_of_span-days.result) (pos (n c.before)) 46751
+days : (c : After-days_of_span-days) → Holds (bits c.days_of_span-days.result) (pos (n c.before)) 46751
 days c =
     let s = c.before in
     got (rw (tt_is s).value at c.days_of_span-days.ensures) (omega (arith, (known s).days_lt)) tt
 
-module _ (c : goal.After-ms_before) where
-  abbrev s : goal.Start
+module _ (c : After-ms_before) where
+  abbrev s : Start
   s = c.before.before
 
   before : Holds (bits c.ms_before.result) (pos (ms_before (n s))) 4039372827000
@@ -59,9 +59,6 @@ returns c =
     let date = rw (days b.before).value at d.date_at.ensures in
     let time = rw (rest b).value at c.time_of_ms.ensures ∙ ap time_of_ms (sym (known (s b)).ms) in
     λ i. record { date = date i; time = time i }
-
-pub days_of_span-days-requires : goal.days_of_span-days-requires
-days_of_span-days-requires c = search rules
 
 pub overflow_add-ms : goal.overflow_add-ms
 overflow_add-ms c = add_ok (tt_is c.before) (lit 883655957816 tt) tt

@@ -4,9 +4,7 @@ use lib.IntN.{pos, neg_ℤ}
 use mir.Syntax.{w64}
 use mir.Val.{SFits}
 use mir.Facts.{to_z-of_z}
-use borrow.Author.Rules.{rules, sfits_of}
-use borrow.Author.Tests.{not-true, not-false}
-use Rattle.rules.specs.declared.Clocked.{Clocked}
+use borrow.Author.Rules.{sfits_of}
 use Rattle.rules.specs.Units.{between}
 use Rattle.rules.specs.Utc.{utc_of_tt}
 use Rattle.laws.specs.Ranges.{between_iff}
@@ -15,6 +13,7 @@ use Rattle.utc.proofs.utc_of_tt.Goals as goal
 use Rattle.utc.proofs.utc_of_tt.Lts as lts
 use Rattle.utc.proofs.utc_of_tt.Reads as reads
 use Rattle.utc.proofs.utc_of_tt.Tie as tie
+use Rattle.std.specs.Prelude.{Ok}
 
 fits : (c : lts.After-struct_told tie.the-claims reads.Pre reads.Post) → SFits w64 c.before.args.tt.0
 fits c = sfits_of c.struct_told-1.given.0.1
@@ -41,10 +40,7 @@ unfolding utc_of_tt
 returns c =
     let past = c.before.before in
     rw ((stretch_accepted_iff past.before.before.before.args.tt).1 (passed past))
-    (ap Clocked.At (rw (to_z-of_z (fits past.before.before)) at c.utc_at.ensures))
-
-pub is_between-requires : goal.is_between-requires
-is_between-requires c = search rules
+    (ap Ok (rw (to_z-of_z (fits past.before.before)) at c.utc_at.ensures))
 
 pub utc_at-requires : goal.utc_at-requires
 utc_at-requires c = rw (to_z-of_z (fits c.before.before.before.before)) (passed c.before.before)

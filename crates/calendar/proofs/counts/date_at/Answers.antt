@@ -4,16 +4,16 @@ use Prim.Native.Nat.{ℕ, ◌+◌, ◌-◌, ◌*◌, ◌/◌, ◌<◌}
 use native.Mathlib.Omega.{arith}
 use lib.IntN.{pos, nat_abs}
 use lib.ListN.{take}
-use lib.Signed.{lt_z_yes}
-use Rattle.words.specs.Holds.{Holds, bits, ◌+ʷ◌, ◌-ʷ◌, ◌*ʷ◌, ◌/ʷ◌, lit, got, add, add_ok, sub_ok, sub_nat, mul, mul_ok}
-use Rattle.words.specs.Holds.{div_lit, div_ok}
+use Rattle.words.specs.Holds.{Holds, bits, ◌+ʷ◌, ◌-ʷ◌, ◌*ʷ◌, ◌/ʷ◌, lit, got, add, sub_nat, mul}
+use Rattle.words.specs.Holds.{div_lit}
 use Rattle.rules.specs.Years.{sum, years}
 use Rattle.laws.specs.Ranges.{InRange}
 use Rattle.laws.specs.Calendar.{years_before_le, less_first}
 use Rattle.laws.specs.FindingDates.{year_at, year_at_lt, year_at_ge, year_at_rest_lt, date_of_count_is}
 use Rattle.calendar.proofs.counts.date_at.Goals as goal
+use Rattle.calendar.proofs.counts.date_at.Goals.{After-years_before, Start}
 
-module _ (c : goal.Start) where
+module _ (c : Start) where
   abbrev n : ℕ
   n = nat_abs c.args.count
 
@@ -38,32 +38,17 @@ module _ (c : goal.Start) where
   in_span : InRange 1972 2099 (pos (1972 + year_at n))
   in_span = record { is = refl; at_least = omega arith; at_most = omega (arith, year_at_lt n n_lt) }
 
-pub overflow_mul-year : goal.overflow_mul-year
-overflow_mul-year c = mul_ok (lit 4 tt) (count c) tt
-
-pub nonzero_div-year : goal.nonzero_div-year
-nonzero_div-year c = div_ok (fourfold c) (lit 1461 tt) (lt_z_yes tt) tt
-
-pub overflow_add-year : goal.overflow_add-year
-overflow_add-year c = add_ok (lit 1972 tt) (quotient c) tt
-
-pub years_before-requires : goal.years_before-requires
-years_before-requires c = rw (year c).value (in_span c)
-
 -- the days of the years before, and the rest
-start : (c : goal.After-years_before)
+start : (c : After-years_before)
     → Holds (bits c.years_before.result) (pos (sum (take (year_at (n c.before)) years))) 46752
 start c =
     got (rw ((year c.before).value, less_first) at c.years_before.ensures)
     (years_before_le (year_at (n c.before))) tt
 
-rest : (c : goal.After-years_before)
+rest : (c : After-years_before)
     → Holds (bits c.before.args.count -ʷ bits c.years_before.result)
     (pos (n c.before - sum (take (year_at (n c.before)) years))) 46751
 rest c = sub_nat (count c.before) (start c) (year_at_ge (n c.before) (n_lt c.before)) tt
-
-pub overflow_sub-count : goal.overflow_sub-count
-overflow_sub-count c = sub_ok (count c.before) (start c) tt
 
 pub date_in-requires : goal.date_in-requires
 date_in-requires c =

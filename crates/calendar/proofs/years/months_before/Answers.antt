@@ -1,50 +1,31 @@
--- `calendar::years::months_before` meets its contract. The sum is of the months passed; the measure is the months left.
-use Prim.Native.Nat.{◌≤◌, ◌-◌}
-use mathlib.Core.Path.{◌≡◌, ◌∙◌}
-use native.Mathlib.Numerals.{add-one}
-use native.Mathlib.Omega.{arith}
-use lib.IntN.{pos}
-use lib.ListN.{take, get_or}
-use borrow.Author.Rules.{rules}
-use Rattle.words.specs.Holds.{Holds, bits, nat, got, add, add_ok}
-use Rattle.rules.specs.Years.{sum as total}
-use Rattle.laws.specs.Rows.{sum_take_suc}
-use Rattle.laws.specs.Calendar.{row, row_days_le, months_before_le}
+-- `calendar::years::months_before` meets its contract.
+use Rattle.std.specs.Prelude.{◌≡◌, refl, List, [], ◌∷◌, ℕ, ◌+◌, take, pos, nat_abs}
+use Rattle.std.specs.List.{sum}
+use Rattle.std.proofs.Common.{arith, ap, ◌∙◌, to_z-of_z}
+use Rattle.std.proofs.lemmas.List.Sums.{sum_by_from}
+use Rattle.rules.specs.Years.{leap, months, sum as total}
+use Rattle.laws.specs.Calendar.{leap_lt, months_row, months_before_le}
+use Rattle.words.specs.Fits.{held64}
 use Rattle.calendar.proofs.years.months_before.Goals as goal
-use Rattle.calendar.proofs.years.months_before.Lts as lts
-use Rattle.calendar.proofs.years.months_before.Reads as reads
-use Rattle.calendar.proofs.years.months_before.Tie as tie
 
-pub loop-k-init : goal.loop-k-init
+sum_is : (ns : List ℕ) → sum ns ≡ total ns
 unfolding total
-loop-k-init c = search rules
-
-pub month_days-sum-requires : goal.month_days-sum-requires
-month_days-sum-requires c = search rules
-
--- the sum so far, and the month that is added
-sum : (c : lts.At-loop tie.the-claims reads.Pre reads.Post goal.the-invariant-loop-k goal.the-decreases-loop-k) → Holds c.loop-k.sum-bits
-    (pos (total (take c.loop-k.k (row c.before.args.leap)))) 366
-sum c = record { value = c.loop-k.invariant.1; size = months_before_le c.args.leap c.loop-k.k c.requires.0 }
-
-month : (c : goal.After-month_days-sum) → Holds (bits c.month_days-sum.result)
-    (pos (get_or (row c.before.before.before.args.leap) c.before.before.loop-k.k 0)) 31
-month c = got c.month_days-sum.ensures (row_days_le _ _ c.before.before.before.requires.0 (omega arith)) tt
-
-pub overflow_add-sum : goal.overflow_add-sum
-overflow_add-sum c = add_ok (sum c.before.before) (month c) tt
-
-pub overflow_add-k : goal.overflow_add-k
-overflow_add-k c = omega arith
-
-pub loop-k-smaller : goal.loop-k-smaller
-loop-k-smaller c = omega arith
-
-pub loop-k-preserved : goal.loop-k-preserved
-loop-k-preserved c =
-    (omega arith, (add (sum c.before.before) (month c) tt).value ∙ rw (add-one, sum_take_suc))
+sum_is [] = refl
+sum_is (n ∷ ns) =
+    let more : sum (n ∷ ns) ≡ 0 + n + sum ns = sum_by_from (λ x. x) (0 + n) ns in
+    omega (arith, more, sum_is ns)
 
 pub returns : goal.returns
 returns c =
-    let e : c.before.loop-k.k ≡ c.before.before.args.months = omega arith in
-    (sum c.before).value ∙ rw e
+    let row = simp (to_z-of_z c.ranges.year) at c.months_of.ensures in
+    held64 c.sum_of.result c.sum_of.type_inv
+    ∙ c.sum_of.ensures
+    ∙ ap (λ ns. pos (sum (take c.args.months ns))) row
+    ∙ ap pos (sum_is (take c.args.months (months (nat_abs c.args.year))))
+
+pub sum_of-requires : goal.sum_of-requires
+sum_of-requires c =
+    let y = nat_abs c.args.year in
+    let row_is = simp (to_z-of_z c.ranges.year) at c.months_of.ensures in
+    rw (row_is, sum_is (take c.args.months (months y)), months_row y)
+    (months_before_le (leap y) c.args.months (leap_lt y))

@@ -3,8 +3,8 @@ use mathlib.Core.Path.{◌∙◌, ap}
 use Prim.Native.Nat.{ℕ, ◌-◌, ◌*◌, ◌/◌}
 use native.Mathlib.Omega.{arith}
 use lib.IntN.{pos, nat_abs}
-use Rattle.words.specs.Holds.{Holds, bits, ◌-ʷ◌, ◌*ʷ◌, ◌/ʷ◌, lit, got, add, add_ok, sub_ok, sub_nat, mul, mul_ok}
-use Rattle.words.specs.Holds.{div_lit, div_ok}
+use Rattle.words.specs.Holds.{Holds, bits, ◌-ʷ◌, ◌*ʷ◌, ◌/ʷ◌, lit, got, add, sub_nat, mul}
+use Rattle.words.specs.Holds.{div_lit}
 use Rattle.laws.specs.Calendar.{years_before}
 use Rattle.calendar.proofs.years.years_before.Goals as goal
 
@@ -30,18 +30,3 @@ module _ (c : goal.Start) where
 pub returns : goal.returns
 returns c = (add (days c) (leaps c) tt).value ∙ ap pos
     (omega (arith, years_before (y c - 1972) (omega (arith, c.requires.at_most)), c.requires.at_least))
-
-pub overflow_sub-result : goal.overflow_sub-result
-overflow_sub-result c = sub_ok (year c) (lit 1972 tt) tt
-
-pub overflow_mul-result : goal.overflow_mul-result
-overflow_mul-result c = mul_ok (lit 365 tt) (years c) tt
-
-pub overflow_sub-result-2 : goal.overflow_sub-result-2
-overflow_sub-result-2 c = sub_ok (year c) (lit 1969 tt) tt
-
-pub nonzero_div-result : goal.nonzero_div-result
-nonzero_div-result c = div_ok (quarters c) (lit 4 tt) (record { lt = tt }) tt
-
-pub overflow_add-result : goal.overflow_add-result
-overflow_add-result c = add_ok (days c) (leaps c) tt

@@ -1,55 +1,42 @@
 -- `line_places::command::command_of` meets its contract.
-use mathlib.Core.Path.{◌≡◌, sym, ◌∙◌}
-use mathlib.Core.Bool.{true}
-use borrow.Author.Rules.{rules}
-use Rattle.words.specs.Tests.{not_taken, not_left}
-use Rattle.rules.specs.Bytes.{same_bytes}
-use Rattle.line_places.specs.Program.{people_word}
-use Rattle.line_places.specs.Commands.{same_is, command_of_2, command_of_3, command_of_4, command_of_5}
+use Rattle.std.proofs.Common.{◌≡◌, sym, ◌∙◌, arith, rules}
+use Rattle.line_places.specs.Commands.{command_of_2, command_of_3, command_of_4, command_of_5}
 use Rattle.line_places.specs.Commands.{command_of_another, command_else}
+use Rattle.line_places.proofs.Words.{people_is}
 use Rattle.line_places.proofs.command.command_of.Goals as goal
-use Rattle.line_places.proofs.command.command_of.Lts as lts
-use Rattle.line_places.proofs.command.command_of.Reads as reads
-use Rattle.line_places.proofs.command.command_of.Tie as tie
 
-pub with_air-requires : goal.with_air-requires
-with_air-requires c = search rules
+pub returns-in-2 : goal.returns-in-2
+returns-in-2 c = sym (command_of_2 _ _ _ _ c.in-2.is)
 
-pub with_air-requires-then-words-eq5 : goal.with_air-requires-then-words-eq5
-with_air-requires-then-words-eq5 c = search rules
+pub returns-in-3 : goal.returns-in-3
+returns-in-3 c =
+    let w = people_is _ _ _ c.eq-people.ensures c.as_slice.ensures in
+    rw c.if-people.true (sym (command_of_3 _ _ _ _ c.in-3.is (w ∙ c.if-people.true)))
 
-pub same-requires : goal.same-requires
-same-requires c = search rules
+pub returns-in-4 : goal.returns-in-4
+returns-in-4 c = c.with_air.ensures ∙ sym (command_of_4 _ _ _ _ c.in-4.is)
 
-pub returns-then-words-eq2 : goal.returns-then-words-eq2
-returns-then-words-eq2 c = sym (command_of_2 _ _ _ _ c.if-words-eq2.true)
+pub returns-in-5 : goal.returns-in-5
+returns-in-5 c =
+    let w = people_is _ _ _ c.eq-people.ensures c.as_slice.ensures in
+    (rw c.if-people-2.true at c.with_air-in-5.ensures) ∙ sym (command_of_5 _ _ _ _ c.in-5.is (w ∙ c.if-people-2.true))
 
-pub returns-then-words-eq4 : goal.returns-then-words-eq4
-returns-then-words-eq4 c = c.with_air.ensures ∙ sym (command_of_4 _ _ _ _ c.if-words-eq4.true)
+pub returns-in_default : goal.returns-in_default
+returns-in_default c =
+    let w = people_is _ _ _ c.eq-people.ensures c.as_slice.ensures in
+    sym (command_of_another c.args.words c.args.third.now c.args.fourth.now c.args.fifth.now
+    (λ e. absurd (omega (arith, e, c.in-3.is))) (λ e. absurd (omega (arith, e, c.in-3.is))) (w ∙ c.if-people.false))
 
--- ---- the third word
+pub returns-in_default-2 : goal.returns-in_default-2
+returns-in_default-2 c =
+    let w = people_is _ _ _ c.eq-people.ensures c.as_slice.ensures in
+    sym (command_of_another c.args.words c.args.third.now c.args.fourth.now c.args.fifth.now
+    (λ e. absurd (omega (arith, e, c.in-5.is))) (λ e. absurd (omega (arith, e, c.in-5.is))) (w ∙ c.if-people-2.false))
 
-word_is : (c : lts.After-same tie.the-claims reads.Pre reads.Post) → c.same.result
-    ≡ same_bytes c.args.third.now people_word
-word_is c = same_is _ people_word c.same.result c.same.ensures.0 c.same.ensures.1
-
-for_people : (c : lts.Else3 tie.the-claims reads.Pre reads.Post)
-    → same_bytes c.args.third.now people_word ≡ true
-for_people c = sym (word_is c.before) ∙ c.if-not-same.false
-
-pub returns-then-not-same : goal.returns-then-not-same
-returns-then-not-same c =
-    sym (command_of_another _ _ _ _ c.if-words-eq2.false c.if-words-eq4.false
-    (sym (word_is c.before.before) ∙ c.if-not-same.true))
-
-pub returns-then-words-eq3 : goal.returns-then-words-eq3
-returns-then-words-eq3 c = sym (command_of_3 _ _ _ _ c.if-words-eq3.true (for_people c.before.before))
-
-pub returns-then-words-eq5 : goal.returns-then-words-eq5
-returns-then-words-eq5 c =
-    c.with_air-then-words-eq5.ensures
-    ∙ sym (command_of_5 _ _ _ _ c.if-words-eq5.true (for_people c.before.before.before.before))
-
-pub returns : goal.returns
-returns c =
-    sym (command_else _ _ _ _ c.if-words-eq2.false c.if-words-eq4.false c.if-words-eq3.false c.if-words-eq5.false)
+pub returns-in_default-3 : goal.returns-in_default-3
+returns-in_default-3 c =
+    let two : c.args.words ≡ 2 → ⊥ = search rules in
+    let four : c.args.words ≡ 4 → ⊥ = search rules in
+    let three : c.args.words ≡ 3 → ⊥ = search rules in
+    let five : c.args.words ≡ 5 → ⊥ = search rules in
+    sym (command_else c.args.words c.args.third.now c.args.fourth.now c.args.fifth.now two four three five)

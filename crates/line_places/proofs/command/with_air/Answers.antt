@@ -1,55 +1,27 @@
 -- `line_places::command::with_air` meets its contract.
-use mathlib.Core.Path.{◌≡◌, sym, ◌∙◌}
-use mathlib.Core.Bool.{true}
-use borrow.Author.Rules.{rules}
-use Rattle.words.specs.Fits.{held64}
-use Rattle.words.specs.Tests.{not_taken, not_left}
-use Rattle.numerals.specs.Tenths.{of_tenths}
-use Rattle.line_places.specs.Program.{with_air}
+use Rattle.std.proofs.Common.{◌≡◌, sym, ◌∙◌}
+use mir.Syntax.{w64}
+use mir.Val.{to_z, of_z}
+use Rattle.std.proofs.Common.{rules}
+use Rattle.line_places.proofs.Words.{without_pressure, without_temperature, with_air_is}
 use Rattle.line_places.proofs.command.with_air.Goals as goal
-use Rattle.line_places.proofs.command.with_air.Lts as lts
-use Rattle.line_places.proofs.command.with_air.Reads as reads
-use Rattle.line_places.proofs.command.with_air.Tie as tie
 
-pub of_tenths-requires : goal.of_tenths-requires
-of_tenths-requires c = search rules
+pub returns-in_err-pressure : goal.returns-in_err-pressure
+returns-in_err-pressure c =
+    c.from_residual.ensures ∙ sym (without_pressure _ _ _ (sym c.parse.ensures.value ∙ c.in_err-pressure.was))
 
-pub of_tenths-requires-2 : goal.of_tenths-requires-2
-of_tenths-requires-2 c = search rules
-
-pub returns-then-not-of_tenths : goal.returns-then-not-of_tenths
-unfolding with_air
-returns-then-not-of_tenths c =
-    rw (sym c.of_tenths.ensures ∙ c.if-not-of_tenths.true)
-
--- the pressure is of the form
-pressure_of : (c : lts.Else1 tie.the-claims reads.Pre reads.Post) → of_tenths c.args.pressure.now ≡ true
-pressure_of c =
-    sym c.of_tenths.ensures ∙ c.if-not-of_tenths.false
-
-pub returns-then-not-of_tenths-2 : goal.returns-then-not-of_tenths-2
-unfolding with_air
-returns-then-not-of_tenths-2 c =
-    rw (pressure_of c.before.before.before, sym c.of_tenths-2.ensures ∙ c.if-not-of_tenths-2.true)
-
--- and the temperature
-temperature_of : (c : lts.Else2 tie.the-claims reads.Pre reads.Post)
-    → of_tenths c.args.temperature.now ≡ true
-temperature_of c =
-    sym c.of_tenths-2.ensures ∙ c.if-not-of_tenths-2.false
-
-pub tenths_of-requires : goal.tenths_of-requires
-tenths_of-requires c = pressure_of c.before.before.before
-
-pub tenths_of-requires-2 : goal.tenths_of-requires-2
-tenths_of-requires-2 c = temperature_of c.before.before
+pub returns-in_err-temperature : goal.returns-in_err-temperature
+returns-in_err-temperature c =
+    c.from_residual-in_err-temperature.ensures
+    ∙ sym (without_temperature _ _ _ _ (sym c.parse.ensures.value ∙ c.in_ok-pressure.was)
+    (sym c.parse-2.ensures.value ∙ c.in_err-temperature.was))
 
 pub returns : goal.returns
-unfolding with_air
 returns c =
-    rw (
-      pressure_of c.before.before.before.before.before,
-      temperature_of c.before.before.before,
-      held64 c.tenths_of.result c.tenths_of.type_inv ∙ c.tenths_of.ensures,
-      held64 c.tenths_of-2.result c.tenths_of-2.type_inv ∙ c.tenths_of-2.ensures,
-    )
+    let p = c.in_ok-pressure.pressure in
+    let t = c.in_ok-temperature.temperature in
+    let e : to_z w64 (of_z w64 p) ≡ p = search rules in
+    let f : to_z w64 (of_z w64 t) ≡ t = search rules in
+    rw (e, f) (sym (with_air_is c.args.people c.args.pressure.now c.args.temperature.now p t
+    (sym c.parse.ensures.value ∙ c.in_ok-pressure.was)
+    (sym c.parse-2.ensures.value ∙ c.in_ok-temperature.was)))

@@ -1,12 +1,6 @@
--- The invariant and the measure of the loop of `line_reads::bytes::answer_bytes`.
-use Prim.Native.Nat.{◌-◌}
-use native.Mathlib.Omega.{arith}
-use lib.ListN.{length}
-use Rattle.line_reads.specs.Steps.{After, after_none, after_more, after_all}
+-- The loop of `line_reads::bytes::answer_bytes`: what is left of the read is answered as all of it is from its start.
+use Rattle.line_reads.specs.Steps.{After}
 use Rattle.line_reads.proofs.bytes.answer_bytes.Given as goal
 
-abbrev pub invariant-loop-i : goal.invariant-loop-i
-invariant-loop-i l = After l.program l.initial.line l.input l.initial.out l.line l.out l.at l.i
-
-abbrev pub decreases-loop-i : goal.decreases-loop-i
-decreases-loop-i l = length l.input - l.i
+abbrev pub invariant-loop-b : goal.invariant-loop-b
+invariant-loop-b l = After l.program l.fn.start l.read l.initial.out.items l.line l.out.items l.b-index

@@ -31,20 +31,20 @@ p_holds c =
     got (rw (w_holds c.before).value at c.sine_factor.ensures)
     (up_to_le (stages (square_parts x) sine_row (pos unit)) unit (sine_stages_range x c.before.before.requires)) tt
 
-s_holds : (c : goal.After-rnd_by_unit-s)
-    → Holds (bits c.rnd_by_unit-s.result) (raw_sine c.before.before.before.args.x) half_quarter_parts
+s_holds : (c : goal.After-rnd_by_unit-sine)
+    → Holds (bits c.rnd_by_unit-sine.result) (raw_sine c.before.before.before.args.x) half_quarter_parts
 unfolding raw_sine
 s_holds c =
     let x = c.before.before.before.args.x in
-    got (product_rounded (x_holds c.before.before.before) (p_holds c.before) tt c.rnd_by_unit-s.ensures)
+    got (product_rounded (x_holds c.before.before.before) (p_holds c.before) tt c.rnd_by_unit-sine.ensures)
     (up_to_le (raw_sine x) half_quarter_parts (raw_sine_range x c.before.before.before.requires)) tt
 
-c_holds : (c : goal.After-raw_cosine)
-    → Holds (bits c.raw_cosine.result) (raw_cosine c.before.before.before.before.args.x) unit
+c_holds : (c : goal.After-raw_cosine-cosine)
+    → Holds (bits c.raw_cosine-cosine.result) (raw_cosine c.before.before.before.before.args.x) unit
 unfolding raw_cosine
 c_holds c =
     let x = c.before.before.before.before.args.x in
-    got (rw (w_holds c.before.before.before).value at c.raw_cosine.ensures)
+    got (rw (w_holds c.before.before.before).value at c.raw_cosine-cosine.ensures)
     (up_to_le (raw_cosine x) unit (raw_cosine_range x c.before.before.before.before.requires)) tt
 
 pub square_parts-w-requires : goal.square_parts-w-requires
@@ -56,11 +56,11 @@ sine_factor-requires c = rw (w_holds c).value (square_range c.before.args.x c.be
 pub overflow_mul-x : goal.overflow_mul-x
 overflow_mul-x c = product_fits (x_holds c.before.before) (p_holds c) tt
 
-pub rnd_by_unit-s-requires : goal.rnd_by_unit-s-requires
-rnd_by_unit-s-requires c = product_asked (x_holds c.before.before) (p_holds c) tt
+pub rnd_by_unit-sine-requires : goal.rnd_by_unit-sine-requires
+rnd_by_unit-sine-requires c = product_asked (x_holds c.before.before) (p_holds c) tt
 
-pub raw_cosine-requires : goal.raw_cosine-requires
-raw_cosine-requires c =
+pub raw_cosine-cosine-requires : goal.raw_cosine-cosine-requires
+raw_cosine-cosine-requires c =
     let b = c.before.before.before in
     rw (w_holds c.before.before).value (square_range b.args.x b.requires)
 

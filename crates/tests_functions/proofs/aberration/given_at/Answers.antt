@@ -11,50 +11,33 @@ use Rattle.laws.specs.Angles.{pair_sized}
 use Rattle.words.specs.Fits.{held64}
 use Rattle.tests_functions.specs.Aberration.{aberration_given, tests_aberration}
 use Rattle.tests_functions.proofs.aberration.given_at.Goals as goal
+use Rattle.tests_functions.proofs.aberration.given_at.Goals.{After-pair-mean, After-pair-perihelion, After-pair-sun}
 
-pub sun_longitude_of-requires : goal.sun_longitude_of-requires
-sun_longitude_of-requires c = search rules
-
-pub pair-sun-requires : goal.pair-sun-requires
-pair-sun-requires c = search rules
-
-sun_is : (c : goal.After-pair-sun) → c.pair-sun.result ≡ pair (sun_longitude c.args.t)
+sun_is : (c : After-pair-sun) → c.pair-sun.result ≡ pair (sun_longitude c.args.t)
 sun_is c =
     let sun = c.sun_longitude_of in
     rw (held64 sun.result sun.type_inv ∙ sun.ensures) at c.pair-sun.ensures
 
-pub perihelion_of-requires : goal.perihelion_of-requires
-perihelion_of-requires c = search rules
-
-pub pair-perihelion-requires : goal.pair-perihelion-requires
-pair-perihelion-requires c = search rules
-
-perihelion_is : (c : goal.After-pair-perihelion)
+perihelion_is : (c : After-pair-perihelion)
     → c.pair-perihelion.result ≡ pair (perihelion c.args.t)
 perihelion_is c =
     let angle = c.perihelion_of in
     rw (held64 angle.result angle.type_inv ∙ angle.ensures) at c.pair-perihelion.ensures
 
-pub obliquity_of-requires : goal.obliquity_of-requires
-obliquity_of-requires c = search rules
-
-pub pair-mean-requires : goal.pair-mean-requires
-pair-mean-requires c = search rules
-
-mean_is : (c : goal.After-pair-mean)
+mean_is : (c : After-pair-mean)
     → c.pair-mean.result ≡ pair (obliquity c.args.t)
 mean_is c =
     let epsilon = c.obliquity_of in
     rw (held64 epsilon.result epsilon.type_inv ∙ epsilon.ensures) at c.pair-mean.ensures
 
 pub aberration-added-requires : goal.aberration-added-requires
-aberration-added-requires c = simp (sun_is, perihelion_is, mean_is) (record { sized = pair_sized _; sized_2 = pair_sized _; sized_3 = pair_sized _ })
+aberration-added-requires c = simp (sun_is, perihelion_is, mean_is) (record { sun_sized = pair_sized _; perihelion_sized = pair_sized _; obliquity_sized = pair_sized _ })
 
 pub aberration_x-requires : goal.aberration_x-requires
-aberration_x-requires c = simp (sun_is, perihelion_is) (record { sized = pair_sized _; sized_2 = pair_sized _ })
+aberration_x-requires c = simp (sun_is, perihelion_is) (record { sun_sized = pair_sized _; perihelion_sized = pair_sized _ })
 
 pub aberration_y-requires : goal.aberration_y-requires
-aberration_y-requires c = simp (sun_is, perihelion_is) (record { sized = pair_sized _; sized_2 = pair_sized _ })
+aberration_y-requires c = simp (sun_is, perihelion_is) (record { sun_sized = pair_sized _; perihelion_sized = pair_sized _ })
 
 pub returns : goal.returns
 unfolding tests_aberration aberration_given given

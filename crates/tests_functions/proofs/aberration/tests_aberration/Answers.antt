@@ -1,39 +1,30 @@
 -- `tests_functions::aberration::tests_aberration` meets its contract.
-use mathlib.Core.Path.{◌∙◌}
-use borrow.Author.Rules.{rules}
+use Rattle.std.proofs.Common.{rules, ◌≡◌, ◌∙◌, ap, sym, Bool, true, false, cond, Result, Ok, Err}
 use mir.Facts.{to_z-of_z}
-use Rattle.rules.specs.Refusals.{refused}
-use Rattle.words.specs.Fits.{held64}
-use Rattle.polynomials.proofs.Tested.{Tested, tested, instant_refused_lem, instant_accepted, instant_in_range}
-use Rattle.tests_functions.specs.Aberration.{aberration_at, tests_aberration}
+use Rattle.rules.specs.declared.Tt.{Tt}
+use Rattle.rules.specs.declared.Refusal.{Refusal}
+use Rattle.rules.specs.Refusals.{Answer, refused}
+use Rattle.tests_functions.specs.Aberration.{aberration_at, aberration_given, tests_aberration}
+use Rattle.tests_functions.specs.InstantsGiven.{in_tt}
 use Rattle.tests_functions.proofs.aberration.tests_aberration.Goals as goal
-use Rattle.tests_functions.proofs.aberration.tests_aberration.Lts as lts
-use Rattle.tests_functions.proofs.aberration.tests_aberration.Reads as reads
-use Rattle.tests_functions.proofs.aberration.tests_aberration.Tie as tie
 
-pub instant_refused-requires : goal.instant_refused-requires
-instant_refused-requires c = search rules
+-- an instant that is given, and one that is refused
+given : (b : Bool) (t u : Tt) (x : Answer) → ◌≡◌ {A = Result Tt Refusal} (Ok t) (cond b (Err Refusal.Instant) (Ok u))
+    → aberration_given t ≡ cond b x (aberration_given u)
+given true t u x e = cc
+given false t u x e = cc
 
-test : (c : lts.After-instant_refused tie.the-claims reads.Pre reads.Post) → Tested c.args.tt c.instant_refused.result
-test c = tested c.ranges.tt c.instant_refused.ensures
+not_given : (b : Bool) (r : Refusal) (u : Tt) (x : Answer) → ◌≡◌ {A = Result Tt Refusal} (Err r) (cond b (Err Refusal.Instant) (Ok u))
+    → refused r 5 ≡ cond b (refused Refusal.Instant 5) x
+not_given true r u x e = cc
+not_given false r u x e = cc
 
-pub number-requires : goal.number-requires
-number-requires c = search rules
-
-pub returns-then-instant_refused : goal.returns-then-instant_refused
-unfolding tests_aberration aberration_at refused
-returns-then-instant_refused c =
-    rw (
-      instant_refused_lem (test c.before.before) c.if-instant_refused.true,
-      held64 c.number.result c.number.type_inv ∙ c.number.ensures,
-    )
-
-pub given_at-requires : goal.given_at-requires
-given_at-requires c =
-    rw (to_z-of_z c.ranges.tt) (instant_in_range (test c.before) c.if-instant_refused.false)
-
-pub returns : goal.returns
+pub returns-in-Ok : goal.returns-in-Ok
 unfolding aberration_at
-returns c =
-    rw (instant_accepted (test c.before.before) c.if-instant_refused.false)
-    (rw (to_z-of_z c.ranges.tt) at c.given_at.ensures)
+returns-in-Ok c =
+    c.given_at.ensures ∙ ap tests_aberration (given _ _ _ _ (rw (to_z-of_z c.ranges.tt) at c.in-Ok.ensures))
+
+pub returns-in-Err : goal.returns-in-Err
+unfolding aberration_at tests_aberration refused
+returns-in-Err c =
+    rw (sym (not_given _ _ _ (aberration_given (in_tt c.args.tt)) (rw (to_z-of_z c.ranges.tt) at c.in-Err.ensures))) (search rules)

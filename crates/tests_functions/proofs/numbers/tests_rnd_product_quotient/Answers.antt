@@ -1,26 +1,17 @@
 -- `tests_functions::numbers::tests_rnd_product_quotient` meets its contract.
-use mathlib.Core.Path.{◌≡◌, refl, sym, ◌∙◌, subst}
-use mathlib.Core.Bool.{Bool, true, false, ◌&&◌}
-use Prim.Native.Nat.{ℕ, ◌+◌, ◌*◌, ◌/◌, ◌≤◌, ◌<◌, ◌^◌}
+use Rattle.std.proofs.Common.{rules, ◌≡◌, refl, sym, ◌∙◌, subst, Bool, true, false, ℕ, ℤ, pos, nat_abs, ◌+◌, ◌*◌, ◌/◌, ◌≤◌, ◌<◌, ◌^◌, ◌&&◌, ◌*ℤ◌, arith}
 use native.Mathlib.Nat.{mul-le-mul_left, mul-le-mul_right, lt-div-mul-add, div-mul-le_self}
-use native.Mathlib.Omega.{arith}
-use borrow.Author.Rules.{rules}
 use lib.Dec.{T}
-use lib.IntN.{ℤ, pos, nat_abs, ◌*ℤ◌}
-use mir.Syntax.{w64}
-use mir.Val.{to_z, of_z}
 use mir.Facts.{to_z-of_z, and_yes}
+use Rattle.std.specs.Option.{IfSome}
 use Rattle.integers.specs.Quotient.{size_pos}
-use Rattle.words.specs.Fits.{held64}
 use Rattle.rules.specs.Units.{+◌, between, within}
 use Rattle.rules.specs.Rounding.{rnd}
 use Rattle.laws.specs.Units.{positive, positive_le, within_le}
 use Rattle.laws.specs.Product.{ProductFits}
-use Rattle.tests_functions.specs.Numbers.{tried, product_tried, rnd_product_quotient_tried}
+use Rattle.tests_functions.specs.Numbers.{product_tried, rnd_product_quotient_tried}
+use Rattle.tests_functions.proofs.OneNumber.{tried_is}
 use Rattle.tests_functions.proofs.numbers.tests_rnd_product_quotient.Goals as goal
-use Rattle.tests_functions.proofs.numbers.tests_rnd_product_quotient.Lts as lts
-use Rattle.tests_functions.proofs.numbers.tests_rnd_product_quotient.Reads as reads
-use Rattle.tests_functions.proofs.numbers.tests_rnd_product_quotient.Tie as tie
 
 -- ---- what the test says
 
@@ -56,36 +47,19 @@ fits a b d e =
 
 -- ---- the needs
 
-pub product_fits-requires : goal.product_fits-requires
-product_fits-requires c = search rules
-
-tested : (c : lts.After-product_fits tie.the-claims reads.Pre reads.Post)
-    → c.product_fits.result ≡ product_tried c.args.a c.args.b c.args.d
-tested c =
-    rw (to_z-of_z c.ranges.a, to_z-of_z c.ranges.b, to_z-of_z c.ranges.d)
-    at c.product_fits.ensures
-
-pub returns-then-not-product_fits : goal.returns-then-not-product_fits
-unfolding rnd_product_quotient_tried tried
-returns-then-not-product_fits c = let out = sym (tested c.before) ∙ c.if-not-product_fits.true in simp out
-
-passed : (c : goal.Else-not-product_fits)
-    → product_tried c.args.a c.args.b c.args.d ≡ true
-passed c = sym (tested c.before) ∙ c.if-not-product_fits.false
-
-pub rnd_product_quotient-quotient-requires : goal.rnd_product_quotient-quotient-requires
-rnd_product_quotient-quotient-requires c =
-    let start = c.before.before in
-    rw (to_z-of_z start.ranges.a, to_z-of_z start.ranges.b, to_z-of_z start.ranges.d)
-    (fits start.args.a start.args.b start.args.d (passed c))
+pub then-requires : goal.then-requires
+then-requires c = λ yes _ _ _ _ _ _ _.
+    let a = c.args.a in
+    let b = c.args.b in
+    let d = c.args.d in
+    let met : product_tried a b d ≡ true =
+    sym (rw (to_z-of_z c.ranges.a, to_z-of_z c.ranges.b, to_z-of_z c.ranges.d) at c.product_fits-is_met.ensures) ∙ yes in
+    rw (to_z-of_z c.ranges.a, to_z-of_z c.ranges.a, to_z-of_z c.ranges.b, to_z-of_z c.ranges.b, to_z-of_z c.ranges.d, to_z-of_z c.ranges.d)
+    (fits a b d met)
 
 pub returns : goal.returns
-unfolding rnd_product_quotient_tried tried
+unfolding rnd_product_quotient_tried
 returns c =
-    let start = c.before.before.before in
-    let is : to_z w64 (of_z w64 c.rnd_product_quotient-quotient.result)
-    ≡ rnd (start.args.a *ℤ start.args.b) (nat_abs start.args.d) =
-    held64 c.rnd_product_quotient-quotient.result c.rnd_product_quotient-quotient.type_inv
-    ∙ rw (to_z-of_z start.ranges.a, to_z-of_z start.ranges.b, to_z-of_z start.ranges.d)
-    at c.rnd_product_quotient-quotient.ensures in
-    simp (passed c.before, is)
+    let given : IfSome c.then.result (λ x. x ≡ rnd (c.args.a *ℤ c.args.b) (nat_abs c.args.d)) = search (rules, c.then.ensures.some) in
+    c.into.ensures
+    ∙ tried_is c.then.result _ _ (c.then.ensures.variant ∙ rw (to_z-of_z c.ranges.a, to_z-of_z c.ranges.b, to_z-of_z c.ranges.d) at c.product_fits-is_met.ensures) given

@@ -1,48 +1,26 @@
 -- `tests_functions::numbers::tests_rnd_quotient` meets its contract.
-use mathlib.Core.Path.{◌≡◌, sym, ◌∙◌}
-use mathlib.Core.Bool.{true, false}
-use Prim.Native.Nat.{◌^◌}
-use borrow.Author.Rules.{rules}
-use lib.IntN.{pos, nat_abs}
-use mir.Syntax.{w64}
-use mir.Val.{to_z, of_z}
+use Rattle.std.proofs.Common.{rules, nat_abs, ◌≡◌, sym, ◌∙◌, true, pos, ◌^◌}
 use mir.Facts.{to_z-of_z}
-use Rattle.words.specs.Fits.{held64}
-use Rattle.rules.specs.Units.{+◌, between}
+use Rattle.std.specs.Option.{IfSome}
+use Rattle.rules.specs.Units.{between}
 use Rattle.rules.specs.Rounding.{rnd}
+use Rattle.tests_functions.proofs.OneNumber.{tried_is}
 use Rattle.laws.specs.Units.{positive, positive_le}
-use Rattle.tests_functions.specs.Numbers.{tried, rnd_quotient_tried}
+use Rattle.tests_functions.specs.Numbers.{rnd_quotient_tried}
 use Rattle.tests_functions.proofs.numbers.tests_rnd_quotient.Goals as goal
-use Rattle.tests_functions.proofs.numbers.tests_rnd_quotient.Lts as lts
-use Rattle.tests_functions.proofs.numbers.tests_rnd_quotient.Reads as reads
-use Rattle.tests_functions.proofs.numbers.tests_rnd_quotient.Tie as tie
 
-pub is_between-requires : goal.is_between-requires
-is_between-requires c = search rules
-
-tested : (c : lts.After-is_between tie.the-claims reads.Pre reads.Post tie.handed_clauses) → c.is_between.result ≡ between (+ 1) (pos (2 ^ 62)) c.args.b
-tested c = rw (to_z-of_z c.ranges.b) at c.is_between.ensures
-
-pub returns-then-not-is_between : goal.returns-then-not-is_between
-unfolding rnd_quotient_tried tried
-returns-then-not-is_between c =
-    let out : between (+ 1) (pos (2 ^ 62)) c.args.b ≡ false =
-    sym (tested c.before) ∙ c.if-not-is_between.true in
-    simp out
-
-in_range_lem : (c : goal.Else-not-is_between) → between (+ 1) (pos (2 ^ 62)) c.args.b ≡ true
-in_range_lem c = sym (tested c.before) ∙ c.if-not-is_between.false
-
-pub rnd_quotient-requires : goal.rnd_quotient-requires
-rnd_quotient-requires c =
+pub then-requires : goal.then-requires
+then-requires c = λ yes _ _ _ _ _ _.
     let b = c.args.b in
-    rw (to_z-of_z c.ranges.b) (record { pos_bound = positive (2 ^ 62) b (in_range_lem c); b_bound = positive_le (2 ^ 62) b (in_range_lem c) })
+    let fits : between (pos 1) (pos (2 ^ 62)) b ≡ true =
+    sym (rw (to_z-of_z c.ranges.b) at c.is_between-is_met.ensures) ∙ yes in
+    rw (to_z-of_z c.ranges.b, to_z-of_z c.ranges.b) (positive (2 ^ 62) b fits, positive_le (2 ^ 62) b fits)
 
 pub returns : goal.returns
-unfolding rnd_quotient_tried tried
+unfolding rnd_quotient_tried
 returns c =
-    let start = c.before.before.before in
-    let is : to_z w64 (of_z w64 c.rnd_quotient.result) ≡ rnd start.args.a (nat_abs start.args.b) =
-    held64 c.rnd_quotient.result c.rnd_quotient.type_inv
-    ∙ rw (to_z-of_z start.ranges.a, to_z-of_z start.ranges.b) at c.rnd_quotient.ensures in
-    simp (in_range_lem c.before, is)
+    let a = c.args.a in
+    let b = c.args.b in
+    let given : IfSome c.then.result (λ x. x ≡ rnd a (nat_abs b)) = search (rules, c.then.ensures.some) in
+    c.into.ensures
+    ∙ tried_is c.then.result _ _ (c.then.ensures.variant ∙ rw (to_z-of_z c.ranges.b) at c.is_between-is_met.ensures) given

@@ -1,34 +1,19 @@
 -- `tests_functions::numbers::tests_whole_root` meets its contract.
-use mathlib.Core.Path.{◌≡◌, ◌∙◌}
-use mathlib.Core.Bool.{true, false}
-use lib.IntN.{pos, nat_abs}
-use lib.Signed.{lt_z}
-use mir.Syntax.{w64}
-use mir.Val.{to_z, of_z}
+use Rattle.std.proofs.Common.{rules, arith, ℤ, not, ◌≡◌, ◌∙◌, pos, nat_abs}
+use Rattle.std.proofs.lemmas.Int.{ints}
+use Rattle.std.specs.Int.Signed.{le_z, lt_z}
 use mir.Facts.{to_z-of_z}
-use Rattle.words.specs.Fits.{held64}
+use Rattle.std.specs.Option.{IfSome}
 use Rattle.rules.specs.Length.{root}
-use Rattle.laws.specs.Units.{nonnegative}
-use Rattle.tests_functions.specs.Numbers.{tried, whole_root_tried}
+use Rattle.tests_functions.specs.Numbers.{whole_root_tried}
+use Rattle.tests_functions.proofs.OneNumber.{tried_is}
 use Rattle.tests_functions.proofs.numbers.tests_whole_root.Goals as goal
 
-pub returns-then-n-lt0 : goal.returns-then-n-lt0
-unfolding whole_root_tried tried
-returns-then-n-lt0 c =
-    let below : lt_z c.args.n (pos 0) ≡ true = rw (to_z-of_z c.ranges.n) at c.if-n-lt0.true in
-    simp below
-
-not_below : (c : goal.Else-n-lt0) → lt_z c.args.n (pos 0) ≡ false
-not_below c = rw (to_z-of_z c.ranges.n) at c.if-n-lt0.false
-
-pub whole_root-requires : goal.whole_root-requires
-whole_root-requires c = rw (to_z-of_z c.ranges.n) (nonnegative c.args.n (not_below c))
+from_0 : (n : ℤ) → le_z (pos 0) n ≡ not (lt_z n (pos 0))
+from_0 n = grind (arith, ints)
 
 pub returns : goal.returns
-unfolding whole_root_tried tried
+unfolding whole_root_tried
 returns c =
-    let n = c.args.n in
-    let is : to_z w64 (of_z w64 c.whole_root.result) ≡ pos (root (nat_abs n)) =
-    held64 c.whole_root.result c.whole_root.type_inv
-    ∙ rw (to_z-of_z c.ranges.n) at c.whole_root.ensures in
-    simp (not_below c.before, is)
+    let given : IfSome c.then.result (λ x. x ≡ pos (root (nat_abs c.args.n))) = search (rules, c.then.ensures.some) in
+    c.into.ensures ∙ tried_is c.then.result _ _ (rw (to_z-of_z c.ranges.n, from_0 c.args.n) at c.then.ensures.variant) given

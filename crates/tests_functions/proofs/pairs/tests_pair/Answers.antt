@@ -1,6 +1,5 @@
 -- `tests_functions::pairs::tests_pair` meets its contract.
 use mathlib.Core.Path.{◌≡◌, ap}
-use borrow.Author.Rules.{rules}
 use mir.Facts.{to_z-of_z}
 use Rattle.rules.specs.Units.{unit}
 use Rattle.rules.specs.Circle.{pair}
@@ -21,9 +20,6 @@ cosine_holds c = got (ap (λ p. p.cosine) (pair_is c)) (pair_sized c.args.angle)
 
 sine_holds : (c : lts.After-pair tie.the-claims reads.Pre reads.Post) → Holds (bits c.pair-p.result.sine) (pair c.args.angle).sine unit
 sine_holds c = got (ap (λ p. p.sine) (pair_is c)) (pair_sized c.args.angle).sine_le tt
-
-pub pair-p-requires : goal.pair-p-requires
-pair-p-requires c = search rules
 
 pub returns : goal.returns
 unfolding tests_pair

@@ -1,13 +1,13 @@
 -- `time_of_day::days::ms_before` meets its contract.
 use Prim.Native.Nat.{ℕ, ◌+◌, ◌-◌}
 use lib.IntN.{pos, nat_abs}
-use borrow.Author.Rules.{rules}
-use Rattle.words.specs.Holds.{Holds, bits, ◌-ʷ◌, lit, got, add, add_ok, sub, sub_ok, sub_nat, mul, mul_ok}
+use Rattle.words.specs.Holds.{Holds, bits, ◌-ʷ◌, lit, got, add, add_ok, sub, sub_nat, mul, mul_ok}
 use Rattle.laws.specs.Seconds.{tai_le}
 use Rattle.laws.specs.Days.{day_on, tai_on, tai_ge, ms_before}
 use Rattle.time_of_day.proofs.days.ms_before.Goals as goal
+use Rattle.time_of_day.proofs.days.ms_before.Goals.{After-tai_minus_utc, Start}
 
-module _ (c : goal.Start) where
+module _ (c : Start) where
   abbrev n : ℕ
   n = nat_abs c.args.days
 
@@ -17,7 +17,7 @@ module _ (c : goal.Start) where
   number : Holds (bits c.args.days -ʷ 10227) (day_on n) (46752 + 10227)
   number = sub days (lit 10227 tt) tt
 
-module _ (c : goal.After-tai_minus_utc) where
+module _ (c : After-tai_minus_utc) where
   tai : Holds (bits c.tai_minus_utc.result) (pos (tai_on (n c.before))) 37
   tai = got (rw (number c.before).value at c.tai_minus_utc.ensures) (tai_le (day_on (n c.before))) tt
 
@@ -27,18 +27,6 @@ module _ (c : goal.After-tai_minus_utc) where
 pub returns : goal.returns
 unfolding ms_before
 returns c = (add (mul (days c.before) (lit 86400000 tt) tt) (mul (lit 1000 tt) (added c) tt) tt).value
-
-pub overflow_mul-result : goal.overflow_mul-result
-overflow_mul-result c = mul_ok (days c) (lit 86400000 tt) tt
-
-pub overflow_sub-days : goal.overflow_sub-days
-overflow_sub-days c = sub_ok (days c) (lit 10227 tt) tt
-
-pub tai_minus_utc-requires : goal.tai_minus_utc-requires
-tai_minus_utc-requires c = search rules
-
-pub overflow_sub-result : goal.overflow_sub-result
-overflow_sub-result c = sub_ok (tai c) (lit 10 tt) tt
 
 pub overflow_mul-result-2 : goal.overflow_mul-result-2
 overflow_mul-result-2 c = mul_ok (lit 1000 tt) (added c) tt

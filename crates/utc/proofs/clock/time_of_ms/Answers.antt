@@ -8,12 +8,12 @@ use lib.Signed.{lt_z_yes}
 use mir.Syntax.{w32, w64}
 use mir.Val.{SFits, to_z, of_z}
 use mir.Facts.{to_z-of_z}
-use borrow.Author.Rules.{rules}
 use Rattle.words.specs.Holds.{Holds, bits, ◌-ʷ◌, ◌*ʷ◌, ◌/ʷ◌, ◌%ʷ◌, lit, got, sub_nat, sub_ok, mul, mul_ok}
 use Rattle.words.specs.Holds.{div_lit, div_ok, rem}
 use Rattle.words.specs.Fits.{fits32}
 use Rattle.rules.specs.Utc.{minutes_of_day, time_of_ms}
 use Rattle.utc.proofs.clock.time_of_ms.Goals as goal
+use Rattle.utc.proofs.clock.time_of_ms.Goals.{After-minutes_of_day-minutes}
 
 -- a small number in 32 bits
 small : {n k b : ℕ} → Holds n (pos k) b → T (ltb b (2 ^ 31)) → SFits w32 (to_z w64 n)
@@ -30,7 +30,7 @@ minutes_within : (n : ℕ) → minutes_of_day n * 60000 ≤ n
 unfolding minutes_of_day
 minutes_within n = omega arith
 
-module _ (c : goal.After-minutes_of_day-minutes) where
+module _ (c : After-minutes_of_day-minutes) where
   abbrev n : ℕ
   n = nat_abs c.before.args.ms
 
@@ -67,9 +67,6 @@ module _ (c : goal.After-minutes_of_day-minutes) where
 pub returns : goal.returns
 unfolding time_of_ms
 returns c = rw (narrowed (hour c) tt, narrowed (minute c) tt, narrowed (second c) tt, narrowed (part c) tt)
-
-pub minutes_of_day-minutes-requires : goal.minutes_of_day-minutes-requires
-minutes_of_day-minutes-requires c = search rules
 
 pub nonzero_div-result : goal.nonzero_div-result
 nonzero_div-result c = div_ok (minutes_is c) (lit 60 tt) (lt_z_yes tt) tt

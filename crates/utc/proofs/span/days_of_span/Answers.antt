@@ -1,6 +1,6 @@
 -- `utc::span::days_of_span` meets its contract: the day that is reached without added seconds, or the one before.
 use mathlib.Core.Path.{refl, sym, ap, ◌∙◌}
-use Prim.Native.Nat.{ℕ, ◌+◌, ◌-◌, ◌/◌}
+use Prim.Native.Nat.{ℕ, ◌/◌}
 use native.Mathlib.Omega.{arith}
 use lib.IntN.{pos}
 use lib.Signed.{lt_z_yes}
@@ -54,8 +54,8 @@ returns-then-ms_before-count c =
     let l = le_z_true (pos (ms_before (most s))) (pos (j s)) t in
     (quotient s).value ∙ ap pos (sym (reached (j s) (days_of_span s.args.tt) (day s) (omega arith)))
 
-pub returns : goal.returns
-returns c =
+pub returns-else-ms_before-count : goal.returns-else-ms_before-count
+returns-else-ms_before-count c =
     let s = c.before.before in
     let t = rw ((before c.before).value, (sum s).value) at c.if-ms_before-count.false in
     let l = le_z_false (pos (ms_before (most s))) (pos (j s)) t in

@@ -1,18 +1,20 @@
 -- `weather::kept::mended` meets its contract.
-use Rattle.std.proofs.Common.{rules}
 use Rattle.rules.specs.Weather.{no_weather, mended}
 use Rattle.weather.proofs.kept.mended.Goals as goal
+use Rattle.weather.proofs.kept.mended.Goals.{then-w, else-w}
 
-pub returns : goal.returns
+pub returns-then-w-2 : goal.returns-then-w-2
 unfolding no_weather mended
-returns c =
-    rw (c.come_or.ensures, c.come_or-2.ensures, c.no_weather-start.ensures)
+returns-then-w-2 c =
+    elim c.if-w.branch [
+      | then-w b ↦ rw (b.result-is, b.if-w.true, c.if-w-2.true)
+      | else-w b ↦ rw (b.result-is, b.if-w.false, c.if-w-2.true, c.no_weather-start.ensures)
+    ]
 
-pub no_weather-start-requires : goal.no_weather-start-requires
-no_weather-start-requires c = search rules
-
-pub come_or-requires : goal.come_or-requires
-come_or-requires c = search rules
-
-pub come_or-requires-2 : goal.come_or-requires-2
-come_or-requires-2 c = search rules
+pub returns-else-w-2 : goal.returns-else-w-2
+unfolding no_weather mended
+returns-else-w-2 c =
+    elim c.if-w.branch [
+      | then-w b ↦ rw (b.result-is, b.if-w.true, c.if-w-2.false, c.no_weather-start.ensures)
+      | else-w b ↦ rw (b.result-is, b.if-w.false, c.if-w-2.false, c.no_weather-start.ensures)
+    ]

@@ -1,0 +1,2 @@
+-- What the proofs of `decimals` share.
+pub mod Digits

@@ -1,0 +1,2 @@
+-- what the checks need of the bytes from a place on
+pub mod Words

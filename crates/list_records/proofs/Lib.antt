@@ -1,0 +1,2 @@
+-- bytes put part by part
+pub mod Parts

@@ -1,0 +1,2 @@
+-- one number that may be none
+pub mod OneNumber

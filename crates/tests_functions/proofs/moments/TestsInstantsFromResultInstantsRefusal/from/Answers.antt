@@ -1,0 +1,14 @@
+-- `tests_functions::moments::TestsInstants::from` meets its contract.
+use borrow.Author.Rules.{rules}
+use Rattle.rules.specs.Refusals.{given, refused}
+use Rattle.rules.specs.Answers.{instants_answer}
+use Rattle.tests_functions.specs.Dates.{tests_instants}
+use Rattle.tests_functions.proofs.moments.TestsInstantsFromResultInstantsRefusal.from.Goals as goal
+
+pub returns-in-Ok : goal.returns-in-Ok
+unfolding tests_instants instants_answer given
+returns-in-Ok c = rw c.in-Ok.is (search rules)
+
+pub returns-in-Err : goal.returns-in-Err
+unfolding tests_instants instants_answer refused
+returns-in-Err c = rw c.in-Err.is (search rules)

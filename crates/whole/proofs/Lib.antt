@@ -1,0 +1,2 @@
+-- Lemmas for the functions of this crate.
+pub mod Tests
