@@ -14,11 +14,15 @@ import sys
 ROOT = pathlib.Path(__file__).resolve().parent.parent
 CRATES = ROOT / "crates"
 
-# public so that promises can name their contracts: no other crate calls them, or none does any more
+# public so that promises can name their contracts: no other crate calls them, or none does any more; what puts bytes into
+# lent memory is for a caller with a room of its own
 PROMISED = {
-    "calendar::dates::day_refused", "calendar::dates::day_number", "polynomials::instant_refused", "marks::has_angle",
+    "calendar::dates::day_refused", "calendar::dates::day_number", "polynomials::instant_refused",
     "numerals::of_number", "numerals::signed", "numerals::tenths::of_tenths", "numerals::tenths::tenths_of",
-    "line_dates::print_date",
+    "line_dates::print_date", "decimals::put_digits", "decimals::put", "decimals::put_refused", "decimals::put_answer",
+    "sexagesimal::put_hours", "sexagesimal::put_bearing", "sexagesimal::put_elevation", "line_entries::put_entry",
+    "line_entries::observed::put_observed", "line_reads::begin", "line_reads::answer_read",
+    "line_places::print_answer",
 }
 
 PUBLIC = re.compile(r'^ *pub (extern "C" )?fn (\w+)(?:<.*?>)?(\((?:&|&mut )?self\b)?', re.M)

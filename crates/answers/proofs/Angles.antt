@@ -16,3 +16,7 @@ flagged None = refl
 pub shown : (b : Bool) → pos (from_bool b) ≡ cond b (pos 1) (pos 0)
 shown true = refl
 shown false = refl
+
+pub flag_shown : (a : Option ℤ) → pos (from_bool (has_angle a)) ≡ flag a
+unfolding flag
+flag_shown a = shown (has_angle a)

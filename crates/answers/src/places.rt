@@ -4,6 +4,7 @@ ghost use Rattle.std.specs.Prelude.{◌≡◌};
 ghost use Rattle.rules.specs.Answers.{placed_answer};
 ghost use Rattle.answers.specs.Answers.{placed_out};
 
+use marks::{has_angle, or_nought};
 use rules::{Place, Refusal};
 
 // A Result for C: the refusal's number and noughts, or 0 and the place in µas. A flag is 1 where
@@ -27,12 +28,12 @@ impl From<Result<Place, Refusal>> for TurbelicusPlaced {
         match a {
             Ok(p) => TurbelicusPlaced {
                 refused: 0,
-                ra: p.ra.unwrap_or(0),
+                ra: or_nought(p.ra),
                 declination: p.declination,
-                azimuth: p.azimuth.unwrap_or(0),
+                azimuth: or_nought(p.azimuth),
                 altitude: p.altitude,
-                has_ra: i32::from(p.ra.is_some()),
-                has_azimuth: i32::from(p.azimuth.is_some()),
+                has_ra: i32::from(has_angle(p.ra)),
+                has_azimuth: i32::from(has_angle(p.azimuth)),
             },
             Err(r) => TurbelicusPlaced {
                 refused: refusals::number(r),

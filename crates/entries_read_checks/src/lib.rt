@@ -20,7 +20,8 @@ pub fn read_into(file: &[u8], room: usize) -> Result<usize, Refusal>
     Ok(count)
 }
 
-// The record that the bytes begin with, as an entry.
+// The record that the bytes begin with, as an entry. The noughts are written out: by `Default` each
+// entry would go by way of the stack.
 #[tactic(auto, unfolding(rules::specs::ListReading::fresh_entry))]
 pub fn entry_in(bytes: &[u8]) -> Entry
     requires { record_length ≤ length bytes.now }
@@ -29,6 +30,11 @@ pub fn entry_in(bytes: &[u8]) -> Entry
     Entry {
         star: star_in(bytes),
         mark: 0,
-        angles: Angles::default(),
+        angles: Angles {
+            ra: 0,
+            declination: 0,
+            azimuth: 0,
+            altitude: 0,
+        },
     }
 }

@@ -40,5 +40,9 @@ pub fn print_date(line: &[u8], out: &mut [u8]) -> usize
     ensures answer { result ≡ length (rule.date_in out.old line.now) }
     ensures kept { out.new ≡ rule.overlaid_in out.old line.now }
 {
+    // a room that is too small costs nothing more
+    if out.len() < 64 {
+        return 0;
+    }
     put_front(&date_line(line), out)
 }

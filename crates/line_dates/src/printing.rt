@@ -5,7 +5,7 @@ ghost use Rattle.arrayvec.specs.ArrayVec.{array_vec_len};
 ghost use Rattle.line_dates.specs.DateLines as rule;
 
 use arrayvec::ArrayVec;
-use decimals::{put_digits, put_marked, refused};
+use decimals::{append_digits, put_marked, refused};
 use rules::{Date, Refusal, Time, Utc};
 
 // `YYYY-MM-DD`.
@@ -14,7 +14,7 @@ fn put_date(date: Date, out: &mut ArrayVec<u8, 64>)
     ensures items { out.new.items ≡ out.old.items ++ rule.date_text date }
     ensures len { array_vec_len out.new ≡ array_vec_len out.old + 10 }
 {
-    put_digits(i64::from(date.year), 4, out);
+    append_digits(i64::from(date.year), 4, out);
     put_marked(b'-', i64::from(date.month), 2, out);
     put_marked(b'-', i64::from(date.day), 2, out);
 }

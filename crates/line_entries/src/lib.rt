@@ -1,8 +1,10 @@
 #![tactic(auto)]
 
-// The line of an entry, of our own program `places`, appended to a text.
+// The line of an entry, of our own program `places`: appended to a text, or put at the front of
+// lent memory.
 
-ghost use Rattle.std.specs.Prelude.{◌≡◌, ◌≤◌, ◌+◌, ◌++◌};
+ghost use Rattle.std.specs.Prelude.{◌≡◌, ◌≤◌, ◌+◌, ◌++◌, length};
+ghost use Rattle.std.proofs.lemmas.List.Edits.{sets};
 ghost use Rattle.arrayvec.specs.ArrayVec.{array_vec_len};
 ghost use Rattle.rules.specs.Times.{decimal};
 ghost use Rattle.line_entries.specs.EntryLine as rule;
@@ -11,7 +13,7 @@ ghost use Rattle.sexagesimal.specs.Sexagesimal.{spaced};
 use crate::angles::put_angles;
 use crate::styles::{People, Plain};
 use arrayvec::ArrayVec;
-use decimals::put;
+use decimals::{append, put_at};
 use rules::Entry;
 
 pub mod air;
@@ -26,12 +28,12 @@ fn put_spaced<const N: usize>(n: i64, out: &mut ArrayVec<u8, N>)
     ensures short { array_vec_len out.new ≤ array_vec_len out.old + 21 }
 {
     out.push(b' ');
-    put(n, out);
+    append(n, out);
 }
 
 // Number, mark and four angles of an entry. Whether for people is a bool, as docs/PROMISES.md names
 // it: inside, a style is a type.
-pub fn put_entry<const N: usize>(
+pub fn append_entry<const N: usize>(
     index: usize,
     entry: Entry,
     people: bool,
@@ -41,11 +43,23 @@ pub fn put_entry<const N: usize>(
     ensures items { out.new.items ≡ out.old.items ++ rule.entry_line people index entry }
     ensures short { array_vec_len out.new ≤ array_vec_len out.old + 125 }
 {
-    put(index as i64, out);
+    append(index as i64, out);
     put_spaced(i64::from(entry.mark), out);
     if people {
         put_angles::<N, People>(entry.angles, out);
     } else {
         put_angles::<N, Plain>(entry.angles, out);
     }
+}
+
+// The same, put at the front of lent memory; how many bytes they are.
+pub fn put_entry(index: usize, entry: Entry, people: bool, out: &mut [u8]) -> usize
+    requires { (index ≤ 64) × (128 ≤ length out.old) }
+    ensures value { result ≡ length (rule.entry_line people index entry) }
+    ensures out_after { out.new
+        ≡ sets out.old 0 (rule.entry_line people index entry) }
+{
+    let mut line = ArrayVec::<u8, 128>::new();
+    append_entry(index, entry, people, &mut line);
+    put_at(line.as_slice(), 0, out)
 }

@@ -7,7 +7,7 @@ ghost use Rattle.sexagesimal.specs.Sexagesimal.{spaced, hours, bearing, elevatio
 
 use crate::put_spaced;
 use arrayvec::ArrayVec;
-use sexagesimal::{put_bearing, put_elevation, put_hours};
+use sexagesimal::{append_bearing, append_elevation, append_hours};
 
 // Each appends a space and an angle.
 pub trait Style<const N: usize> {
@@ -65,14 +65,14 @@ impl<const N: usize> Style<N> for People {
     ghost height = { elevation };
 
     fn put_ra(angle: i64, out: &mut ArrayVec<u8, N>) {
-        put_hours(angle, out);
+        append_hours(angle, out);
     }
 
     fn put_azimuth(angle: i64, out: &mut ArrayVec<u8, N>) {
-        put_bearing(angle, out);
+        append_bearing(angle, out);
     }
 
     fn put_height(angle: i64, out: &mut ArrayVec<u8, N>) {
-        put_elevation(angle, out);
+        append_elevation(angle, out);
     }
 }

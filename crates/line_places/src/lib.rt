@@ -5,7 +5,7 @@
 
 ghost use Rattle.std.specs.Prelude.{◌≡◌, ◌≤◌, [], length, Ok, ℕ};
 ghost use Rattle.rules.specs.ListFile.{most_records};
-ghost use Rattle.rules.specs.Times.{ended};
+ghost use Rattle.rules.specs.Times.{overlaid, ended};
 ghost use Rattle.line_places.specs.Program.{places};
 ghost use Rattle.line_places.specs.Listed.{counted, accepted_lines, read_lines};
 
@@ -13,8 +13,10 @@ use crate::air::accepted;
 use crate::command::Command;
 use crate::printing::{put_entries, put_refusal};
 use arrayvec::ArrayVec;
+use decimals::put_at;
 use entries_listing::{Listing, read, work};
 use line_asked::{Asked, asked_of, length_before};
+use line_entries::air::Air;
 use rules::{Entry, Refusal};
 use units::{HEAD_BYTES, MOST_RECORDS, RECORD_BYTES};
 
@@ -34,7 +36,7 @@ pub const ANSWER_ROOM: usize = 9472;
 pub type Answer = ArrayVec<u8, ANSWER_ROOM>;
 
 // All that is printed of entries, which were worked; or that the air is refused. That the room is
-// empty stays a clause, here and below: `print_answer` clears it once for all of them. So does how
+// empty stays a clause, here and below: `answer_text` clears it once for all of them. So does how
 // many entries there are: a slice has no length in its type.
 fn print_accepted(entries: &[Entry], command: Command, out: &mut Answer)
     requires few { length entries.now ≤ most_records }
@@ -84,13 +86,13 @@ fn print_asked(listing: Listing, asked: Option<Asked>, command: Command, out: &m
     }
 }
 
-// All that the program prints.
+// All that the program prints, as a text.
 //
 // Given: file and input, any bytes: the input is what standard input holds, and its first line
 // alone counts; any command; a room for a header and 64 lines, and what stands there goes.
 // Returned: nothing. The room then has all that is printed, and no more.
 // Rule: specs/Program.antt.
-pub fn print_answer(file: &[u8], input: &[u8], command: Command, out: &mut Answer)
+pub fn answer_text(file: &[u8], input: &[u8], command: Command, out: &mut Answer)
     ensures { out.new.items ≡ places command.people command.air file.now input.now }
 {
     out.clear();
@@ -98,4 +100,29 @@ pub fn print_answer(file: &[u8], input: &[u8], command: Command, out: &mut Answe
     let line = &input[..n];
     let asked = asked_of(line);
     print_asked(read(file), asked, command, out)
+}
+
+// All that the program prints, in lent memory.
+//
+// Given: file and input, any bytes: the input is what standard input holds, and its first line
+// alone counts; whether angles are printed for people; any air; room for a header and 64 lines.
+// Returned: how many bytes are printed, which stand at the front of the room; the rest of the room
+// stays.
+// Rule: specs/Program.antt.
+pub fn print_answer(
+    file: &[u8],
+    input: &[u8],
+    people: bool,
+    air: Option<Air>,
+    out: &mut [u8; ANSWER_ROOM],
+) -> usize
+    ensures answer { result
+        ≡ length (places people air file.now input.now) }
+    ensures kept { out.new
+        ≡ overlaid (places people air file.now input.now)
+        out.old }
+{
+    let mut answer = Answer::new();
+    answer_text(file, input, Command { people, air }, &mut answer);
+    put_at(answer.as_slice(), 0, out)
 }

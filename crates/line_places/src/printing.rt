@@ -14,10 +14,10 @@ ghost use Rattle.line_places.specs.Room.{answer_room};
 use crate::Answer;
 use crate::air::AcceptedCommand;
 use crate::command::Command;
-use decimals::{put_refused, put_text};
+use decimals::{append_refused, put_text};
 use line_entries::air::AcceptedAir;
-use line_entries::observed::put_observed;
-use line_entries::put_entry;
+use line_entries::append_entry;
+use line_entries::observed::append_observed;
 use rules::Entry;
 
 // `refused ` and the number, with its end. The number is one, as `decimals` puts it.
@@ -26,7 +26,7 @@ pub fn put_refusal(number: i64, out: &mut Answer)
     requires { array_vec_len out.old + 29 ≤ answer_room }
     ensures { out.new.items ≡ out.old.items ++ ended (refused_to number ∷ []) }
 {
-    put_refused(number, out);
+    append_refused(number, out);
     put_text(b"\n", out);
 }
 
@@ -52,9 +52,9 @@ fn put_columns(index: usize, entry: Entry, command: AcceptedCommand, out: &mut A
     ensures short { array_vec_len out.new ≤ array_vec_len out.old + 146 }
 {
     let Command { people, air } = command.command;
-    put_entry(index, entry, people, out);
+    append_entry(index, entry, people, out);
     if let Some(air) = air {
-        put_observed(AcceptedAir { air }, entry, people, out);
+        append_observed(AcceptedAir { air }, entry, people, out);
     }
 }
 

@@ -10,7 +10,7 @@ ghost use Rattle.std.specs.Prelude.{IfOk, IfSome};
 ghost use Rattle.line_program.specs.Turns.{Handed, Turned};
 
 use input::reason::Reason;
-use line_reads::{Answers, Program, Start, answer_read, begin};
+use line_reads::{Answers, Program, Start, answer_text, begin_text};
 use std::io::Read;
 use std::{fmt, io};
 
@@ -51,7 +51,7 @@ fn read_some<R: Print, I: Read>(
 {
     let mut bytes = [0u8; 1024];
     let count = input.read(&mut bytes).map_err(Failure::Input)?;
-    let next = answer_read(program, start, &bytes[..count], out);
+    let next = answer_text(program, start, &bytes[..count], out);
     hand_out(rt, program, out)?;
     if count == 0 {
         return Ok(None);
@@ -66,7 +66,7 @@ fn answer_all<R: Print, I: Read>(rt: &R, input: &mut I, program: Program) -> Res
     let mut byte = [0u8; 1];
     input.read(&mut byte[..0]).map_err(Failure::Input)?;
     let mut out = Answers::new();
-    let mut start = begin(program, &mut out);
+    let mut start = begin_text(program, &mut out);
     hand_out(rt, program, &out)?;
     for _ in 0..i64::MAX {
         match read_some(rt, input, program, start, &mut out)? {

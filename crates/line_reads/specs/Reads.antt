@@ -21,6 +21,7 @@ use Rattle.rules.specs.Lines.{line_of}
 use Rattle.rules.specs.Times.{printed, header, newline, ended, times}
 use Rattle.line_dates.specs.DateLines.{date_line, dates}
 use Rattle.line_reads.specs.declared.Program.{Program}
+use Rattle.line_reads.specs.declared.AfterRead.{AfterRead}
 use Rattle.line_reads.specs.declared.starts.Start.{Start}
 use Rattle.line_reads.specs.declared.starts.Start.TheInside.{Inside}
 
@@ -108,3 +109,12 @@ answers_of p s (b ∷ bytes) = answers_to p s (b ∷ bytes)
 unfoldable pub start_of_next : Start → List ℕ → Start
 start_of_next s [] = none
 start_of_next s (b ∷ bytes) = start_after_all s (b ∷ bytes)
+
+-- ---- in lent memory: the start, and how many bytes stand at the front
+
+abbrev pub after_read : Program → Start → List ℕ → AfterRead
+after_read p s bytes = record { start = start_of_next s bytes; written = length (answers_of p s bytes) }
+
+-- before any read: the header
+abbrev pub begun : Program → AfterRead
+begun p = record { start = none; written = length (header_line p) }

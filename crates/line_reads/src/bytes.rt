@@ -8,7 +8,7 @@ use crate::{Answers, Program, Start};
 use decimals::put_text;
 
 // Puts the answer of a line, with its end, after those before it. The room of 64 bytes stays a
-// clause of each function: it is what `answer_read` counts, byte by byte of the read.
+// clause of each function: it is what `answer_text` counts, byte by byte of the read.
 #[tactic(auto, using(crate::specs::Lengths::answer_le), unfolding(crate::specs::Reads::answered))]
 pub fn put_answer(program: Program, start: &Start, out: &mut Answers)
     requires { array_vec_len out.old + 64 ≤ 65536 }

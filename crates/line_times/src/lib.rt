@@ -7,7 +7,6 @@ ghost use Rattle.line_times.specs.Printed.{printed_for, printed_in, overlaid_in}
 
 use crate::printing::printed;
 use arrayvec::ArrayVec;
-use decimals::put_front;
 use numerals::fields::line_of;
 
 mod printing;
@@ -34,5 +33,13 @@ pub fn print_line(line: &[u8], out: &mut [u8]) -> usize
     ensures answer { result ≡ length (printed_in out.old line.now) }
     ensures kept { out.new ≡ overlaid_in out.old line.now }
 {
-    put_front(&printed_for(line), out)
+    // a room that is too small costs nothing more
+    if out.len() < 64 {
+        return 0;
+    }
+    // by exchange: a copy of a length that is not known would have C's linker find `memcpy`
+    let mut text = printed_for(line);
+    let n = text.len();
+    out[..n].swap_with_slice(text.as_mut_slice());
+    n
 }

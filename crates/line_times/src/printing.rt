@@ -5,7 +5,7 @@ ghost use Rattle.rules.specs.Times as rule;
 ghost use Rattle.line_times.specs.Printed.{answer_to};
 
 use arrayvec::ArrayVec;
-use decimals::{put_answer, put_refused, refused};
+use decimals::{append_answer, append_refused, refused};
 use rules::{Instants, Moment, Refusal};
 
 // The instants of a moment on a day, or the refusal.
@@ -14,8 +14,8 @@ fn answer(day: i64, instants: Result<Instants, Refusal>) -> ArrayVec<u8, 64>
 {
     let mut text = ArrayVec::new();
     match instants {
-        Ok(at) => put_answer(day, at.ut.0, at.tt.0, &mut text),
-        Err(r) => put_refused(refusals::number(r), &mut text),
+        Ok(at) => append_answer(day, at.ut.0, at.tt.0, &mut text),
+        Err(r) => append_refused(refusals::number(r), &mut text),
     }
     text
 }

@@ -6,7 +6,7 @@
 // observed altitude is printed too.
 //
 // Standard input: one line, `YYYY-MM-DD hh:mm:ss.mmm d latitude longitude`, angles in µas.
-// Standard output: a header and a line for each entry, or `refused N`. `line_places::print_answer`
+// Standard output: a header and a line for each entry, or `refused N`. `line_places::answer_text`
 // works it out whole, and it is written at once. What went wrong with the arguments, with reading
 // or with writing is a line on standard error; of the first two, standard output then has nothing.
 
@@ -17,7 +17,7 @@ ghost use Rattle.std.specs.Prelude.{◌≤◌, length, IfOk};
 use input::reason::Reason;
 use input::{read_file, read_line};
 use line_places::command::{Command, command_of};
-use line_places::{Answer, FILE_KEPT, LINE_KEPT, print_answer};
+use line_places::{Answer, FILE_KEPT, LINE_KEPT, answer_text};
 use std::env::FillError;
 use std::fs::File;
 use std::io;
@@ -73,7 +73,9 @@ fn no_word(error: FillError) -> io::Error {
 }
 
 // A word of the command, where the room holds it; or why it does not stand there.
-fn word<'a>(rt: &HostRuntime, index: usize, room: &'a mut [u8; WORD_KEPT]) -> io::Result<&'a [u8]> {
+fn word<'a>(rt: &HostRuntime, index: usize, room: &'a mut [u8; WORD_KEPT]) -> io::Result<&'a [u8]>
+    ensures { IfOk result (λ w. length w.now ≤ 4096) }
+{
     let length = rt.arg(index, room).map_err(no_word)?;
     Ok(&room[..length])
 }
@@ -106,7 +108,7 @@ fn answer<'a>(
         error,
     ))?;
     let mut out = Answer::new();
-    print_answer(&front[..length], &input[..end], command, &mut out);
+    answer_text(&front[..length], &input[..end], command, &mut out);
     rt.write_all(&out)
         .map_err(|error| Failure::Of(b"standard output", error))
 }

@@ -1,6 +1,6 @@
--- The programs `times` and `dates` to the byte, of the functions themselves. Each begins by `line_reads::begin`, hands
--- each read of its input to `line_reads::answer_read` with the start that the call before it answered, and writes what
--- stands in the room after each call. What the contracts tell of these calls entails that all that is written is what the
+-- The programs `times` and `dates` to the byte, of the functions themselves. Each begins by `line_reads::begin_text`, hands
+-- each read of its input to `line_reads::answer_text` with the start that the call before it answered, and writes what
+-- stands in the text after each call. What the contracts tell of these calls entails that all that is written is what the
 -- program prints for all that is read, wherever the reads are cut, and that no answer waits for another line.
 use Rattle.std.specs.Prelude.{◌≡◌, ℕ}
 use Rattle.std.proofs.Math.Path.{refl, ap}
@@ -21,11 +21,11 @@ use Rattle.line_reads.specs.Inputs.{ToTheEnd, GoingOn, answers_of_all}
 use Rattle.line_reads.proofs.Cuts.{printed_of_reads, printed_so_far}
 use Rattle.promises.specs.OfContracts.{so_told, together}
 use Rattle.promises.specs.Calls.{Each, all_tell}
-use Rattle.line_reads.specs.contracts.answer_read as answer_read
+use Rattle.line_reads.specs.contracts.answer_text as answer_text
 use Rattle.promises.specs.ProgramLines as stated
 
 module _ {M : Type 1} {𝓤 : Ura M} (𝓛 : Logic 𝓤) (mem : Memory → SProp 𝓤) (run : Routine → Fun 𝓤) where
-  abbrev read_contract : Clauses 𝓤 answer_read.ended
+  abbrev read_contract : Clauses 𝓤 answer_text.ended
   read_contract = stated.read_contract 𝓛 mem run
 
   abbrev BeginCall : Type 0
@@ -80,8 +80,8 @@ module _ {M : Type 1} {𝓤 : Ura M} (𝓛 : Logic 𝓤) (mem : Memory → SProp
   written_in_all_lem : (p : Program) (b : BeginCall) (cs : List ReadCall) → CallsOf p b cs
       → ent 𝓤 (told_of_all b cs) (fact 𝓤 (written_in_all b cs ≡ header_line p ++ answers_of_all p none (map read_by cs)))
   written_in_all_lem p b cs calls =
-      together 𝓤 ((stated.begin_answers 𝓛 mem run) b.lifetimes b.passed b.ghost b.answer b.exit)
-      (all_tell 𝓤 answer_read.ended read_contract (stated.answer_read_answers 𝓛 mem run) cs) (λ e fs.
+      together 𝓤 ((stated.begin_text_answers 𝓛 mem run) b.lifetimes b.passed b.ghost b.answer b.exit)
+      (all_tell 𝓤 answer_text.ended read_contract (stated.answer_text_answers 𝓛 mem run) cs) (λ e fs.
       let w = e.1 ∙ ap header_line calls.0 in
       let n : b.answer ≡ none = e.0 in
       let ws = all_written p b.answer cs calls.1 fs in

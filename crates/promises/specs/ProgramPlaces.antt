@@ -1,4 +1,4 @@
--- Our own program `places`. What it hands to standard output is what the contract of `print_answer` tells; what it
+-- Our own program `places`. What it hands to standard output is what the contract of `answer_text` tells; what it
 -- keeps of the file and of standard input decides as all of their bytes would. No function that it calls asks anything.
 use Rattle.std.specs.Prelude.{◌≡◌, refl, Bool, true, false, cond, List, [], ◌∷◌, ℕ, suc, ◌≤◌, eqb, length, take, Option}
 use Rattle.std.proofs.Common.{ap, ◌∙◌, arith, take_all, length-take-le}
@@ -15,7 +15,8 @@ use mir.Syntax.{Dict}
 use Rattle.std.specs.declared.io.traits.Read.{Ghosts}
 use Rattle.std.specs.contracts.fs.File.{the_row as File}
 use Rattle.std.specs.contracts.rt.Stdin.{the_row as Stdin}
-use Rattle.rules.specs.Times.{newline}
+use Rattle.rules.specs.Times.{newline, overlaid}
+use Rattle.laws.specs.PuttingBytes.{front_of}
 use Rattle.line_asked.specs.Asking.{length_before}
 use Rattle.input.specs.Input.{line_with_end, read_length}
 use Rattle.line_entries.specs.declared.air.Air.{Air}
@@ -26,6 +27,7 @@ use Rattle.promises.specs.OfContracts.{AsksNothing, Tells, clauses_told, so_told
 use Rattle.input.specs.contracts.read_file as read_file
 use Rattle.input.specs.contracts.read_line as read_line
 use Rattle.entries_listing.specs.contracts.read as read
+use Rattle.line_places.specs.contracts.answer_text as answer_text
 use Rattle.line_places.specs.contracts.print_answer as print_answer
 use Rattle.line_places.specs.contracts.command.command_of as command_of_lem
 
@@ -57,31 +59,42 @@ kept_decides people air file input =
     file_cut people air file (kept_of_input input) ∙ input_cut people air file (line_with_end input)
     ∙ rw (first_line_same input)
 
+printed : (n : ℕ) (bytes room out : List ℕ) → n ≡ length bytes → out ≡ overlaid bytes room → take n out ≡ bytes
+printed n bytes room out e f = rw (e, f) (front_of bytes room)
+
 kept_whole : (n : ℕ) (room : List ℕ) (k : ℕ) → n ≤ length room → length room ≡ k → take k (take n room) ≡ take n room
 kept_whole n room k h e = take_all k (take n room) (omega (arith, length-take-le n room h))
 
 module _ {M : Type 1} {𝓤 : Ura M} (𝓛 : Logic 𝓤) (mem : Memory → SProp 𝓤) (run : Routine → Fun 𝓤) where
   -- ---- what is handed to standard output: all that stands in the room
 
-  -- file, input, the command, the room
-  pub print_answer_tells : Tells 𝓤 print_answer.ended (print_answer.clauses 𝓛 mem run)
+  -- file, input, the command, the text
+  pub answer_text_tells : Tells 𝓤 answer_text.ended (answer_text.clauses 𝓛 mem run)
       (λ κs passed a x. x.1.1.1.0.now.items
       ≡ places passed.1.1.0.people passed.1.1.0.air passed.0.now passed.1.0.now)
-  print_answer_tells κs passed g a x = id⊢ 𝓤 _
+  answer_text_tells κs passed g a x = id⊢ 𝓤 _
 
   -- and so of all bytes of the file and of standard input, where what is passed was kept of them
-  pub places_tells : Tells 𝓤 print_answer.ended (print_answer.clauses 𝓛 mem run)
+  pub places_tells : Tells 𝓤 answer_text.ended (answer_text.clauses 𝓛 mem run)
       (λ κs passed a x. (file input : List ℕ)
       → passed.0.now ≡ kept_of_file file → passed.1.0.now ≡ kept_of_input input
       → x.1.1.1.0.now.items ≡ places passed.1.1.0.people passed.1.1.0.air file input)
   unfolding places
-  places_tells κs passed g a x = so_told 𝓤 (print_answer_tells κs passed g a x) (λ e file input h k.
+  places_tells κs passed g a x = so_told 𝓤 (answer_text_tells κs passed g a x) (λ e file input h k.
       let people = passed.1.1.0.people in
       let air = passed.1.1.0.air in
       let decides : places people air (kept_of_file file) (kept_of_input input) ≡ places people air file input =
       file_cut people air file (kept_of_input input) ∙ input_cut people air file (line_with_end input)
       ∙ rw (first_line_same input) in
       e ∙ rw (h, k) decides)
+
+  -- ---- and in lent memory: so many first bytes of the room as the answer says
+
+  -- file, input, whether for people, the air, the room
+  pub print_answer_tells : Tells 𝓤 print_answer.ended (print_answer.clauses 𝓛 mem run)
+      (λ κs passed a x. take a x.1.1.1.1.0.now
+      ≡ places passed.1.1.0 passed.1.1.1.0 passed.0.now passed.1.0.now)
+  print_answer_tells κs passed g a x = clauses_told 𝓤 (λ e f. printed a _ _ _ e f)
 
   -- ---- what is read: no more than the room holds, and of a line what would be kept of it again
 
@@ -104,6 +117,9 @@ module _ {M : Type 1} {𝓤 : Ura M} (𝓛 : Logic 𝓤) (mem : Memory → SProp
 
   pub read_asks_nothing : AsksNothing 𝓤 read.ended (read.clauses 𝓛 mem run)
   read_asks_nothing κs passed g = refl
+
+  pub answer_text_asks_nothing : AsksNothing 𝓤 answer_text.ended (answer_text.clauses 𝓛 mem run)
+  answer_text_asks_nothing κs passed g = refl
 
   pub print_answer_asks_nothing : AsksNothing 𝓤 print_answer.ended (print_answer.clauses 𝓛 mem run)
   print_answer_asks_nothing κs passed g = refl

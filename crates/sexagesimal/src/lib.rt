@@ -1,14 +1,15 @@
 #![tactic(auto)]
 
-// Angles for people, appended to a text after a space.
+// Angles for people, after a space: appended to a text, or put at a place of lent memory.
 
-ghost use Rattle.std.specs.Prelude.{◌≡◌, ◌≤◌, ◌+◌, ◌++◌, nat_abs};
+ghost use Rattle.std.specs.Prelude.{◌≡◌, ◌≤◌, ◌+◌, ◌++◌, nat_abs, length};
+ghost use Rattle.std.proofs.lemmas.List.Edits.{sets};
 ghost use Rattle.arrayvec.specs.ArrayVec.{array_vec_len};
 ghost use Rattle.sexagesimal.specs.Sexagesimal.{spaced};
 ghost use Rattle.sexagesimal.specs.Sexagesimal as rule;
 
 use arrayvec::ArrayVec;
-use decimals::{put_digits, put_marked};
+use decimals::{append_digits, put_at, put_marked};
 use rounding::rnd_quotient;
 use whole::modulo_of;
 
@@ -18,7 +19,7 @@ fn put_clock<const N: usize>(seconds: i64, width: usize, out: &mut ArrayVec<u8, 
     ensures items { out.new.items ≡ out.old.items ++ rule.clock width (nat_abs seconds) }
     ensures len { array_vec_len out.new ≡ array_vec_len out.old + width + 6 }
 {
-    put_digits(seconds / 3600, width, out);
+    append_digits(seconds / 3600, width, out);
     put_marked(b':', seconds / 60 % 60, 2, out);
     put_marked(b':', seconds % 60, 2, out);
 }
@@ -40,8 +41,8 @@ fn put_parts<const N: usize>(
     put_marked(b'.', n, digits, out);
 }
 
-// Right ascension. Its like is `put_bearing`, which says why they are two.
-pub fn put_hours<const N: usize>(angle: i64, out: &mut ArrayVec<u8, N>)
+// Right ascension. Its like is `append_bearing`, which says why they are two.
+pub fn append_hours<const N: usize>(angle: i64, out: &mut ArrayVec<u8, N>)
     requires { array_vec_len out.old + 12 ≤ N }
     ensures items { out.new.items ≡ out.old.items ++ spaced (rule.hours angle) }
     ensures len { array_vec_len out.new ≡ array_vec_len out.old + 12 }
@@ -51,9 +52,9 @@ pub fn put_hours<const N: usize>(angle: i64, out: &mut ArrayVec<u8, N>)
     put_parts(2, n / 100, 2, n, out);
 }
 
-// Azimuth. One function of this and `put_hours` would take five numbers more, which only their
+// Azimuth. One function of this and `append_hours` would take five numbers more, which only their
 // order tells apart; what both share is `put_parts`.
-pub fn put_bearing<const N: usize>(angle: i64, out: &mut ArrayVec<u8, N>)
+pub fn append_bearing<const N: usize>(angle: i64, out: &mut ArrayVec<u8, N>)
     requires { array_vec_len out.old + 12 ≤ N }
     ensures items { out.new.items ≡ out.old.items ++ spaced (rule.bearing angle) }
     ensures len { array_vec_len out.new ≡ array_vec_len out.old + 12 }
@@ -71,7 +72,7 @@ fn sign_of(n: i64) -> u8
 }
 
 // Declination or altitude.
-pub fn put_elevation<const N: usize>(angle: i64, out: &mut ArrayVec<u8, N>)
+pub fn append_elevation<const N: usize>(angle: i64, out: &mut ArrayVec<u8, N>)
     requires { array_vec_len out.old + 12 ≤ N }
     ensures items { out.new.items ≡ out.old.items ++ spaced (rule.elevation angle) }
     ensures len { array_vec_len out.new ≡ array_vec_len out.old + 12 }
@@ -80,4 +81,37 @@ pub fn put_elevation<const N: usize>(angle: i64, out: &mut ArrayVec<u8, N>)
     out.push(b' ');
     out.push(sign_of(n));
     put_parts(2, n / 10, 1, n, out);
+}
+
+// Right ascension, put at a place; the place after it.
+pub fn put_hours(angle: i64, at: usize, out: &mut [u8]) -> usize
+    requires { at + 13 ≤ length out.old }
+    ensures value { result ≡ at + length (spaced (rule.hours angle)) }
+    ensures out_after { out.new ≡ sets out.old at (spaced (rule.hours angle)) }
+{
+    let mut hours = ArrayVec::<u8, 13>::new();
+    append_hours(angle, &mut hours);
+    put_at(hours.as_slice(), at, out)
+}
+
+// Azimuth, put at a place; the place after it.
+pub fn put_bearing(angle: i64, at: usize, out: &mut [u8]) -> usize
+    requires { at + 13 ≤ length out.old }
+    ensures value { result ≡ at + length (spaced (rule.bearing angle)) }
+    ensures out_after { out.new ≡ sets out.old at (spaced (rule.bearing angle)) }
+{
+    let mut bearing = ArrayVec::<u8, 13>::new();
+    append_bearing(angle, &mut bearing);
+    put_at(bearing.as_slice(), at, out)
+}
+
+// Declination or altitude, put at a place; the place after it.
+pub fn put_elevation(angle: i64, at: usize, out: &mut [u8]) -> usize
+    requires { at + 14 ≤ length out.old }
+    ensures value { result ≡ at + length (spaced (rule.elevation angle)) }
+    ensures out_after { out.new ≡ sets out.old at (spaced (rule.elevation angle)) }
+{
+    let mut elevation = ArrayVec::<u8, 14>::new();
+    append_elevation(angle, &mut elevation);
+    put_at(elevation.as_slice(), at, out)
 }

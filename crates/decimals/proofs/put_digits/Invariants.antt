@@ -1,11 +1,13 @@
--- The invariant of the loop of `decimals::put_digits`: what is put, with the digits left, is the whole.
-use Rattle.std.specs.Prelude.{◌≡◌, ◌+◌, ◌-◌, ◌≤◌, nat_abs}
-use Rattle.arrayvec.specs.ArrayVec.{array_vec_len}
-use Rattle.decimals.proofs.Digits.{with_left}
+-- The invariant and the measure of the loop of `decimals::put_digits`: what is put, with the digits left, is the whole.
+use Rattle.std.specs.Prelude.{◌≡◌, ◌≤◌, nat_abs, length}
+use Rattle.laws.specs.PuttingBytes.{written}
 use Rattle.decimals.proofs.put_digits.Given as goal
 
-abbrev pub invariant-loop : goal.invariant-loop
-invariant-loop g l =
-    (l.counter ≤ l.k)
-    × ((array_vec_len l.out ≡ array_vec_len l.initial.out + l.counter)
-    × (with_left l.out.items (l.k - l.counter) (nat_abs l.rest) ≡ with_left l.initial.out.items l.k (nat_abs l.n)))
+abbrev pub invariant-loop-i : goal.invariant-loop-i
+invariant-loop-i l =
+    (l.i ≤ l.k)
+    × ((length l.out ≡ length l.initial.out)
+    × (written l.i (nat_abs l.rest) l.at l.out ≡ written l.k (nat_abs l.n) l.at l.initial.out))
+
+abbrev pub decreases-loop-i : goal.decreases-loop-i
+decreases-loop-i l = l.i

@@ -5,4 +5,4 @@ use Rattle.line_program.proofs.read_some.Goals as goal
 
 pub hand_out-requires : goal.hand_out-requires
 hand_out-requires g c =
-    subst (Handed c.args.program) (sym c.answer_read-next.ensures.printed) (answers c.args.start _)
+    subst (Handed c.args.program) (sym c.answer_text-next.ensures.printed) (answers c.args.start _)

@@ -30,7 +30,7 @@ returns-clause-items g c =
     let f = c.ranges.seconds in
     rw (
       c.put_marked.ensures.items,
-      c.put_digits.ensures.items,
+      c.append_digits.ensures.items,
       divided_size s 3600 f (lit< tt),
       minutes_is s f,
       seconds_is s f,

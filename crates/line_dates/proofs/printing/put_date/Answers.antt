@@ -14,7 +14,7 @@ returns-clause-items c =
     let day : SFits w32 date.day = search rules in
     rw (
       c.put_marked.ensures.items,
-      c.put_digits.ensures.items,
+      c.append_digits.ensures.items,
       held64 c.from.result c.from.type_inv ∙ c.from.ensures ∙ to_z-of_z year,
       held64 c.from-2.result c.from-2.type_inv ∙ c.from-2.ensures ∙ to_z-of_z month,
       held64 c.from-3.result c.from-3.type_inv ∙ c.from-3.ensures ∙ to_z-of_z day,

@@ -10,9 +10,9 @@ returns-in-Ok c =
     let f : SFits w64 c.in-Ok.at.ut.0 = search rules in
     let g : SFits w64 c.in-Ok.at.tt.0 = search rules in
     rw (c.in-Ok.is, at_answer c.args.day c.in-Ok.at.ut c.in-Ok.at.tt)
-    (rw (c.new-text.ensures, to_z-of_z c.ranges.day, to_z-of_z f, to_z-of_z g) at c.put_answer.ensures.items)
+    (rw (c.new-text.ensures, to_z-of_z c.ranges.day, to_z-of_z f, to_z-of_z g) at c.append_answer.ensures.items)
 
 pub returns-in-Err : goal.returns-in-Err
 returns-in-Err c =
     rw (c.in-Err.is, refused_answer c.args.day c.in-Err.r)
-    (rw (c.new-text.ensures, held64 c.number.result c.number.type_inv ∙ c.number.ensures) at c.put_refused.ensures.items)
+    (rw (c.new-text.ensures, held64 c.number.result c.number.type_inv ∙ c.number.ensures) at c.append_refused.ensures.items)

@@ -1,7 +1,7 @@
--- `line_entries::observed::put_observed` meets its contract.
+-- `line_entries::observed::append_observed` meets its contract.
 use Rattle.words.specs.Fits.{held64}
 use Rattle.line_entries.specs.Observed.{observed_column}
-use Rattle.line_entries.proofs.observed.put_observed.Goals as goal
+use Rattle.line_entries.proofs.observed.append_observed.Goals as goal
 
 pub returns-then-people-clause-items : goal.returns-then-people-clause-items
 unfolding observed_column

@@ -1,10 +1,10 @@
--- `sexagesimal::put_elevation` meets its contract.
+-- `sexagesimal::append_elevation` meets its contract.
 use Rattle.std.proofs.Common.{◌≡◌, ◌∙◌, append_assoc, lit<, SFits, to_z-of_z, rules}
 use Rattle.std.specs.Int.{w64}
 use Rattle.rules.specs.Rounding.{rnd}
 use Rattle.sexagesimal.specs.Sexagesimal.{elevation}
 use Rattle.sexagesimal.specs.Quotients.{divided_size}
-use Rattle.sexagesimal.proofs.put_elevation.Goals as goal
+use Rattle.sexagesimal.proofs.append_elevation.Goals as goal
 
 pub returns-clause-items : goal.returns-clause-items
 unfolding elevation
