@@ -96,6 +96,19 @@ module _ {M : Type 1} {𝓤 : Ura M} (𝓛 : Logic 𝓤) (mem : Memory → SProp
       ≡ places passed.1.1.0 passed.1.1.1.0 passed.0.now passed.1.0.now)
   print_answer_tells κs passed g a x = clauses_told 𝓤 (λ e f. printed a _ _ _ e f)
 
+  pub print_answer_places : Tells 𝓤 print_answer.ended (print_answer.clauses 𝓛 mem run)
+      (λ κs passed a x. (file input : List ℕ)
+      → passed.0.now ≡ kept_of_file file → passed.1.0.now ≡ kept_of_input input
+      → take a x.1.1.1.1.0.now ≡ places passed.1.1.0 passed.1.1.1.0 file input)
+  unfolding places
+  print_answer_places κs passed g a x = so_told 𝓤 (print_answer_tells κs passed g a x) (λ e file input h k.
+      let people = passed.1.1.0 in
+      let air = passed.1.1.1.0 in
+      let decides : places people air (kept_of_file file) (kept_of_input input) ≡ places people air file input =
+      file_cut people air file (kept_of_input input) ∙ input_cut people air file (line_with_end input)
+      ∙ rw (first_line_same input) in
+      e ∙ rw (h, k) decides)
+
   -- ---- what is read: no more than the room holds, and of a line what would be kept of it again
 
   -- of every type of reader: the file, the room
